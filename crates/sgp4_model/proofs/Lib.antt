@@ -1,0 +1,30 @@
+pub mod Turns
+pub mod Near
+pub mod Horner
+pub mod GoodStep
+pub mod Rests
+pub mod CosineLaws
+pub mod SineLaws
+pub mod TieValue
+pub mod PairLaws
+pub mod Span
+pub mod NearQuarters
+pub mod FarQuarters
+pub mod SamePairs
+pub mod Lipschitz
+pub mod Floor
+pub mod OwnPair
+pub mod Mirror
+pub mod Pythagoras
+mod KnownValues
+pub mod InCode
+pub mod Bends
+pub mod PowerLemma
+mod AngleBox
+pub mod SineSlope
+pub mod CosineSlope
+pub mod OnSlope
+pub mod TieSlope
+pub mod Quarters
+pub mod SumsSlope
+pub mod PairSlopes

@@ -1,0 +1,4 @@
+pub mod Angle
+pub mod AngleSums
+pub mod PairLaws
+pub mod Slope
