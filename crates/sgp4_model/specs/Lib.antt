@@ -1,4 +1,5 @@
 pub mod Angle
 pub mod AngleSums
 pub mod PairLaws
+pub mod Root
 pub mod Slope
