@@ -9,7 +9,7 @@ use Rattle.sgp4_model.proofs.Horner.{cosine_neg}
 use Rattle.sgp4_model.proofs.CosineLaws.{cosine_low}
 use Rattle.sgp4_model.proofs.TieValue.{pi_angle, tie_high}
 use Rattle.sgp4_model.proofs.PairLaws.{IsNearPair, pair_trans, pair_sym, pair_weaken, no_pair, turned_near, turned_none}
-use Rattle.sgp4_model.proofs.Span.{sums, IsSpan, first_angle, second_angle, pis_apart, pi_angle_neg, tie_positive, near_cosine, sine_between, sums_small}
+use Rattle.sgp4_model.proofs.AngleSpan.{sums, IsSpan, first_angle, second_angle, pis_apart, pi_angle_neg, tie_positive, near_cosine, sine_between, sums_small}
 
 -- each pi is above 3
 pub pi_above_3 : {pi : ℚ} → IsPi pi → ratio (pos 3) 1 ≤ℚ pi

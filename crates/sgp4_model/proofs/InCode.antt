@@ -6,7 +6,7 @@ use Rattle.exact.proofs.RationalRing.{ring, reads}
 use Rattle.exact.proofs.Order.{◌⊕◌, ◌⊗◌, gap, known, le_by, le_of_not_negative}
 use Rattle.sgp4_model.specs.Angle.{IsPi, IsSinCos, quadrant, turned, reduced, part, least_pi}
 use Rattle.sgp4_model.proofs.Near.{near_refl}
-use Rattle.sgp4_model.proofs.Span.{sums}
+use Rattle.sgp4_model.proofs.AngleSpan.{sums}
 
 -- `k.rem_euclid(4)` is the quadrant of k
 pub rem_euclid_is_quadrant : (k : ℤ) → int_rem_euclid k (pos 4) ≡ pos (quadrant k)

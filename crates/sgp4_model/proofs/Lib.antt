@@ -7,7 +7,7 @@ pub mod CosineLaws
 pub mod SineLaws
 pub mod TieValue
 pub mod PairLaws
-pub mod Span
+pub mod AngleSpan
 pub mod NearQuarters
 pub mod FarQuarters
 pub mod SamePairs

@@ -11,7 +11,7 @@ use Rattle.sgp4_model.specs.PairLaws.{IsModest, SinePairsAreLipschitz, OneAngleH
 use Rattle.sgp4_model.proofs.Near.{near_refl, near_times, near_weaken}
 use Rattle.sgp4_model.proofs.Rests.{IsAngle}
 use Rattle.sgp4_model.proofs.PairLaws.{IsNearPair, pair_trans, pair_sym, pair_weaken, turned_near}
-use Rattle.sgp4_model.proofs.Span.{reduced_angle}
+use Rattle.sgp4_model.proofs.AngleSpan.{reduced_angle}
 use Rattle.sgp4_model.proofs.FarQuarters.{pi_above_3}
 use Rattle.sgp4_model.proofs.SamePairs.{pair_of_sums, IsPlace, same_pairs}
 

@@ -11,7 +11,7 @@ use Rattle.sgp4_model.proofs.CosineLaws.{cosine_near}
 use Rattle.sgp4_model.proofs.SineLaws.{sine_near}
 use Rattle.sgp4_model.proofs.TieValue.{pi_angle, tie_near}
 use Rattle.sgp4_model.proofs.PairLaws.{IsNearPair, pair_weaken, neg_neg}
-use Rattle.sgp4_model.proofs.Span.{sums, IsSpan, first_angle, second_angle, pis_apart, pi_angle_neg, tie_positive, near_gap, near_cosine}
+use Rattle.sgp4_model.proofs.AngleSpan.{sums, IsSpan, first_angle, second_angle, pis_apart, pi_angle_neg, tie_positive, near_gap, near_cosine}
 
 -- the same number of quarter turns
 pub same_quarter : {pi pj d e y z : ℚ} → IsSpan pi pj zero_ℚ d e y z → IsNearPair (d +ℚ e +ℚ part 66) (sums y) (sums z)

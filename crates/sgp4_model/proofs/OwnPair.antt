@@ -10,7 +10,7 @@ use Rattle.sgp4_model.specs.PairLaws.{SineAndCosineExist}
 use Rattle.sgp4_model.proofs.Near.{near_refl}
 use Rattle.sgp4_model.proofs.Floor.{floor_ℚ, floor_ℚ_le, le_floor_ℚ}
 use Rattle.sgp4_model.proofs.FarQuarters.{pi_above_3}
-use Rattle.sgp4_model.proofs.Span.{sums}
+use Rattle.sgp4_model.proofs.AngleSpan.{sums}
 use Rattle.sgp4_model.proofs.SamePairs.{pair_of_sums}
 
 -- the angle and an eighth of a turn, in quarter turns

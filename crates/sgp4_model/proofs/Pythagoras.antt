@@ -11,7 +11,7 @@ use Rattle.sgp4_model.specs.PairLaws.{SquaresAddUpToOne, SinePairsAreBounded}
 use Rattle.sgp4_model.proofs.Near.{near_trans, near_weaken}
 use Rattle.sgp4_model.proofs.Rests.{IsAngle}
 use Rattle.sgp4_model.proofs.PairLaws.{IsNearPair, pair_trans, no_pair, turned_near, turned_none}
-use Rattle.sgp4_model.proofs.Span.{reduced_angle, sine_between, sums_small}
+use Rattle.sgp4_model.proofs.AngleSpan.{reduced_angle, sine_between, sums_small}
 use Rattle.sgp4_model.proofs.Lipschitz.{pair_near_sums}
 
 -- the two sums: all terms up to y^18 cancel

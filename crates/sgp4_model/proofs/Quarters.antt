@@ -8,7 +8,7 @@ use Rattle.sgp4_model.specs.AngleSums.{sine_sum, cosine_sum}
 use Rattle.sgp4_model.specs.Angle.{IsPi, IsNear, IsReduced, turned}
 use Rattle.sgp4_model.proofs.Near.{near_positive, near_weaken}
 use Rattle.sgp4_model.proofs.Horner.{sine_neg, cosine_neg}
-use Rattle.sgp4_model.proofs.Span.{sums, reduced_angle}
+use Rattle.sgp4_model.proofs.AngleSpan.{sums, reduced_angle}
 use Rattle.sgp4_model.proofs.FarQuarters.{pi_above_3}
 use Rattle.sgp4_model.proofs.SineSlope.{sine_slope}
 use Rattle.sgp4_model.proofs.CosineSlope.{cosine_slope}

@@ -9,7 +9,7 @@ use Rattle.exact.proofs.Integers.{of_int_add, of_int_le, of_int_is}
 use Rattle.sgp4_model.specs.Angle.{IsPi, IsNear, IsReduced, Pair, quadrant, turned, reduced, part}
 use Rattle.sgp4_model.proofs.Near.{near_sym, near_positive}
 use Rattle.sgp4_model.proofs.PairLaws.{IsNearPair, pair_sym, turned_near, turned_next, turned_twice, ordered}
-use Rattle.sgp4_model.proofs.Span.{sums, IsSpan}
+use Rattle.sgp4_model.proofs.AngleSpan.{sums, IsSpan}
 use Rattle.sgp4_model.proofs.NearQuarters.{same_quarter, next_quarter}
 use Rattle.sgp4_model.proofs.FarQuarters.{opposite_quarter, further_quarters}
 

@@ -7,7 +7,7 @@ use Rattle.exact.proofs.RationalRing.{ring, reads}
 use Rattle.exact.proofs.Integers.{of_int_add, of_int_le, of_int_is}
 use Rattle.sgp4_model.specs.Angle.{quadrant, reduced}
 use Rattle.sgp4_model.proofs.PairLaws.{turned_next, ordered}
-use Rattle.sgp4_model.proofs.Span.{sums}
+use Rattle.sgp4_model.proofs.AngleSpan.{sums}
 use Rattle.sgp4_model.proofs.SamePairs.{pair_of_sums}
 use Rattle.sgp4_model.proofs.OnSlope.{IsOnSlope, turned_on_slope}
 use Rattle.sgp4_model.proofs.TieSlope.{slack, way_on}

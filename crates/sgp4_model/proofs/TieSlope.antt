@@ -8,7 +8,7 @@ use Rattle.sgp4_model.specs.Angle.{IsPi, IsNear, IsReduced, part, turned}
 use Rattle.sgp4_model.proofs.Horner.{sine_neg, cosine_neg}
 use Rattle.sgp4_model.proofs.SineLaws.{sine_near}
 use Rattle.sgp4_model.proofs.TieValue.{pi_angle, tie_near}
-use Rattle.sgp4_model.proofs.Span.{sums, reduced_angle, pi_angle_neg, near_gap, near_cosine}
+use Rattle.sgp4_model.proofs.AngleSpan.{sums, reduced_angle, pi_angle_neg, near_gap, near_cosine}
 use Rattle.sgp4_model.proofs.SineSlope.{sine_slope}
 use Rattle.sgp4_model.proofs.CosineSlope.{cosine_slope}
 use Rattle.sgp4_model.proofs.OnSlope.{IsOnSlope}

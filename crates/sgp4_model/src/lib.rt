@@ -1,4 +1,7 @@
 //! The definitions that every promise of the program is made of, and their laws.
 #![tactic(auto)]
 
-mod laws;
+pub mod laws;
+pub mod span;
+
+pub use span::{Mark, Span};
