@@ -1,8 +1,13 @@
 pub mod Angle
 pub mod AngleSums
 pub mod Certified
+pub mod DaySolution
+pub mod Degrees
 pub mod PairLaws
 pub mod Records
 pub mod Root
+pub mod Sidereal
 pub mod Slope
+pub mod Sun
 pub mod Time
+pub mod Vector
