@@ -28,3 +28,4 @@ pub mod TieSlope
 pub mod Quarters
 pub mod SumsSlope
 pub mod PairSlopes
+pub mod Quotients

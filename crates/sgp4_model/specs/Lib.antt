@@ -3,7 +3,9 @@ pub mod AngleSums
 pub mod Certified
 pub mod DaySolution
 pub mod Degrees
+pub mod OrderLaws
 pub mod PairLaws
+pub mod Quotient
 pub mod Records
 pub mod Root
 pub mod Sidereal

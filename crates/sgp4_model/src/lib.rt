@@ -2,6 +2,7 @@
 #![tactic(auto)]
 
 pub mod laws;
+pub mod order_laws;
 pub mod span;
 
 pub use span::{Mark, Span};
