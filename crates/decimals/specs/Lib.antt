@@ -1,0 +1,4 @@
+pub mod Decimal
+pub mod Normal
+pub mod Order
+pub mod Units
