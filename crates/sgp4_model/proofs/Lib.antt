@@ -1,3 +1,5 @@
+pub mod CertifiedLemmas
+pub mod TimeLemmas
 pub mod Turns
 pub mod Near
 pub mod Horner

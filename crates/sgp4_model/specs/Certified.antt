@@ -8,7 +8,7 @@ use Rattle.sgp4_model.specs.declared.span.Mark.TheVariants.{Yes, No, Undecided}
 use Rattle.sgp4_model.specs.declared.span.Span.{Span}
 
 -- a track: how many ticks it has, and at which places yes, no and grazing hold
-pub record Track : Type 1 where
+pub record TrackRecord : Type 1 where
   pub ticks : ℕ
   pub yes : ℚ → Type 0
   pub no : ℚ → Type 0
@@ -34,26 +34,26 @@ NeighboursDiffer [] = ⊤
 NeighboursDiffer (first ∷ rest) = BeginsOtherThan first.mark rest × NeighboursDiffer rest
 
 -- what the mark of a span says holds at every place of the closed span, and an undecided one is no longer than the resolution
-pub record IsTrueSpan (track : Track) (resolution : ℕ) (span : Span) : Type 0 where
+pub record IsTrueSpan (track : TrackRecord) (resolution : ℕ) (span : Span) : Type 0 where
   pub yes : span.mark ≡ Yes → Throughout span.from span.to track.yes
   pub no : span.mark ≡ No → Throughout span.from span.to track.no
   pub grazes : span.mark ≡ Undecided → Throughout span.from span.to track.grazes
   pub short : span.mark ≡ Undecided → span.to ≤ span.from + resolution
 
 -- the list is sound up to a tick
-pub record IsSoundUpTo (track : Track) (resolution : ℕ) (list : List Span) (to : ℕ) : Type 0 where
+pub record IsSoundUpTo (track : TrackRecord) (resolution : ℕ) (list : List Span) (to : ℕ) : Type 0 where
   pub tiles : Tiles list to
   pub differ : NeighboursDiffer list
   pub each : All (IsTrueSpan track resolution) list
 
 -- the track grazes at every place from one tick to another, which are one tick more than the resolution apart
-pub record IsUnresolved (track : Track) (resolution from to : ℕ) : Type 0 where
+pub record IsUnresolved (track : TrackRecord) (resolution from to : ℕ) : Type 0 where
   pub longer : to ≡ from + resolution + 1
   pub inside : to ≤ track.ticks
   pub grazes : Throughout from to track.grazes
 
 -- a list is sound up to a tick before the end, and it and the slots used before it are all the slots there are
-pub record IsFull (track : Track) (resolution slots used at : ℕ) : Type 0 where
+pub record IsFull (track : TrackRecord) (resolution slots used at : ℕ) : Type 0 where
   pub list : List Span
   pub sound : IsSoundUpTo track resolution list at
   pub before_the_end : at < track.ticks
@@ -61,7 +61,7 @@ pub record IsFull (track : Track) (resolution slots used at : ℕ) : Type 0 wher
 
 -- A row is certified: its answer and its list of spans say of the track what they seem to. There are so many slots
 -- for spans, of which so many were used before this row.
-abbrev pub IsCertified : Track → ℕ → ℕ → ℕ → AnswerRecord → List Span → Type 0
+abbrev pub IsCertified : TrackRecord → ℕ → ℕ → ℕ → AnswerRecord → List Span → Type 0
 IsCertified track resolution slots used (spans count) list =
     IsSoundUpTo track resolution list track.ticks × (count ≡ length list)
 IsCertified track resolution slots used (unresolved from to) list = IsUnresolved track resolution from to × (list ≡ [])

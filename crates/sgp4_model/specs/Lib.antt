@@ -4,6 +4,7 @@ pub mod Certified
 pub mod DaySolution
 pub mod Degrees
 pub mod OrderLaws
+pub mod CertifiedLaws
 pub mod PairLaws
 pub mod Quotient
 pub mod Records

@@ -1,6 +1,7 @@
 //! The definitions that every promise of the program is made of, and their laws.
 #![tactic(auto)]
 
+pub mod certified_laws;
 pub mod laws;
 pub mod order_laws;
 pub mod span;

@@ -1,0 +1,24 @@
+//! Laws of lists of spans.
+
+ghost use Rattle.sgp4_model.specs.Certified.{TrackRecord};
+ghost use Rattle.sgp4_model.specs.CertifiedLaws.{EmptyListTiles, SoundListsExtend, TilesHoldEachPlace};
+
+/// Something that has a track.
+pub trait Tracked {
+    ghost track: { TrackRecord };
+}
+
+/// The empty list tiles 0 to 0.
+pub fn the_empty_list_tiles()
+    ensures { EmptyListTiles }
+{}
+
+/// A sound list and a true span of another mark, that begins where the list ends, are sound up to the span's end.
+pub fn sound_lists_extend<T: Tracked>()
+    ensures { SoundListsExtend T.track }
+{}
+
+/// Each place up to a tick lies in some span of a list that tiles 0 to it.
+pub fn tiles_hold_each_place()
+    ensures { TilesHoldEachPlace }
+{}
