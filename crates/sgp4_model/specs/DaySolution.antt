@@ -7,7 +7,7 @@ use Rattle.sgp4_model.specs.Vector.{Vector, inner_product}
 use Rattle.sgp4_model.specs.Sidereal.{IsSiderealPair, earth_fixed}
 use Rattle.sgp4_model.specs.Sun.{IsSun}
 use Rattle.sgp4_model.specs.Time.{instant_of_place}
-use Rattle.sgp4_model.specs.Certified.{Track}
+use Rattle.sgp4_model.specs.Certified.{TrackRecord}
 
 -- the local up, Earth-fixed, at a latitude and a longitude: (cos f cos l, cos f sin l, sin f)
 abbrev pub local_up : Pair → Pair → Vector
@@ -45,7 +45,7 @@ abbrev pub EveryDaySolution : ℚ → ℚ → ℤ → (ℚ → Type 0) → ℚ �
 EveryDaySolution lat lon start holds place = (product : ℚ) → IsDaySolution lat lon (instant_of_place start place) product → holds product
 
 -- the track of daylight: at a place of the window every day solution is light, is night, or grazes
-abbrev pub day_track : ℚ → ℚ → ℤ → ℕ → Track
+abbrev pub day_track : ℚ → ℚ → ℤ → ℕ → TrackRecord
 day_track lat lon start ticks = record {
   ticks = ticks;
   yes = EveryDaySolution lat lon start IsDaylight;
