@@ -1,0 +1,141 @@
+-- What numerals say of an enclosure: where its value lies, and how far its spread goes.
+-- The operations compute them for a result, as the enclosure's own operations do.
+use Rattle.std.specs.Prelude.{ℕ, suc, ◌+◌, ◌*◌, ◌/◌, ◌^◌, ◌-◌, ◌≤◌, max, Bool, true, false, ◌&&◌, T, ℤ, pos, negsuc, ◌+ℤ◌, ◌-ℤ◌, ◌*ℤ◌, unsigned_abs}
+use lib.Signed.{non_neg}
+use Rattle.algebra.proofs.Polynomials.{Unless}
+use Rattle.exact.specs.Rational.{ℚ}
+use Rattle.exact.proofs.RationalRing.{Coef}
+use Rattle.exact.proofs.Intervals.{Interval, Inside, interval_add, interval_mul, coef_neg, coef_le, floor}
+use Rattle.exact.proofs.Integers.{ceiling}
+use Rattle.fixed_iv.specs.Extent.{Extent, IsMeasured, width_of}
+use Rattle.fixed_iv.specs.Holds.{Holds, IsBounded}
+use Rattle.fixed_iv.specs.Place.{Place}
+use Rattle.fixed_iv.specs.declared.iv.Iv.{Iv}
+
+-- A value's range, and the greatest spread of an enclosure of it. Nothing is said where `ok` is false.
+pub record Reach : Type 0 where
+  pub ok : Bool
+  pub range : Interval
+  pub spread : ℕ
+
+-- the value lies in the range, and the enclosure is measured, with at most that spread
+pub record IsKnown (e : Extent) (x : ℚ) (range : Interval) (spread : ℕ) : Type 0 where
+  pub inside : Inside range x
+  pub measured : IsMeasured e
+  pub narrow : e.spread ≤ spread
+
+-- the enclosure covers the value, and, where it tells its spread, both are as the numerals say
+pub record IsHeld {A : Type 0} (meaning : A → Place → ℚ → Type 0) (extent : A → Extent) (told : Bool) (a : A) (h : Place) (x : ℚ) (r : Reach) : Type 0 where
+  pub covers : meaning a h x
+  pub known : T told → T r.ok → IsKnown (extent a) x r.range r.spread
+
+-- numerals that say nothing
+abbrev pub nothing : Reach
+nothing = record { ok = false; range = record { low = record { num = pos 0; under = 0 }; high = record { num = pos 0; under = 0 } }; spread = 0 }
+
+-- a number in units of 2^-48, rounded down and up
+abbrev pub units_below : Coef → ℤ
+units_below c = floor (c.num *ℤ pos 281474976710656) (suc c.under)
+
+abbrev pub units_above : Coef → ℤ
+units_above c = ceiling (c.num *ℤ pos 281474976710656) (suc c.under)
+
+-- the least and the greatest end that the bounds can have
+abbrev pub lowest : Reach → ℤ
+lowest r = units_below r.range.low -ℤ pos r.spread
+
+abbrev pub highest : Reach → ℤ
+highest r = units_above r.range.high +ℤ pos r.spread
+
+-- so many units of 2^-48
+abbrev pub in_fraction : ℤ → Coef
+in_fraction units = record { num = units; under = 281474976710655 }
+
+-- where the bounds lie, and their largest size
+abbrev pub outer : Reach → Interval
+outer r = record { low = in_fraction (lowest r); high = in_fraction (highest r) }
+
+abbrev pub outer_size : Reach → ℕ
+outer_size r = max (unsigned_abs (lowest r)) (unsigned_abs (highest r))
+
+-- between -32,000 and 32,000
+abbrev pub is_small : Interval → Bool
+is_small i = coef_le (record { num = negsuc 31999; under = 0 }) i.low && coef_le i.high (record { num = pos 32000; under = 0 })
+
+-- ranges of products are rounded outward to this denominator, less 1
+abbrev pub grain : ℕ
+grain = 2 ^ 64 - 1
+
+abbrev pub interval_neg : Interval → Interval
+interval_neg i = record { low = coef_neg i.high; high = coef_neg i.low }
+
+-- of a sum
+infixl 6 ◌+ᴿ◌
+unfoldable pub ◌+ᴿ◌ : Reach → Reach → Reach
+a +ᴿ b =
+    record {
+      ok = (a.ok && b.ok) && is_small (interval_add (outer a) (outer b));
+      range = interval_add a.range b.range;
+      spread = a.spread + b.spread;
+    }
+
+-- of a difference
+infixl 6 ◌-ᴿ◌
+unfoldable pub ◌-ᴿ◌ : Reach → Reach → Reach
+a -ᴿ b =
+    record {
+      ok = (a.ok && b.ok) && is_small (interval_add (outer a) (interval_neg (outer b)));
+      range = interval_add a.range (interval_neg b.range);
+      spread = a.spread + b.spread;
+    }
+
+-- of a product
+infixl 7 ◌*ᴿ◌
+unfoldable pub ◌*ᴿ◌ : Reach → Reach → Reach
+a *ᴿ b =
+    record {
+      ok = (a.ok && b.ok) && is_small (interval_mul grain (outer a) (outer b));
+      range = interval_mul grain a.range b.range;
+      spread = (outer_size a * b.spread + outer_size b * a.spread) / 281474976710656 + 2;
+    }
+
+-- of a negative
+unfoldable pub negative : Reach → Reach
+negative a = record { ok = a.ok && is_small (interval_neg (outer a)); range = interval_neg a.range; spread = a.spread }
+
+-- of either number of a pair
+abbrev pub turn_range : Interval
+turn_range = record { low = record { num = negsuc 100000; under = 99999 }; high = record { num = pos 100001; under = 99999 } }
+
+unfoldable pub turned : Reach → Reach
+turned a = record { ok = a.ok; range = turn_range; spread = a.spread + 16 }
+
+-- of a given interval of at most this width, for a value in this range
+unfoldable pub given : Interval → ℕ → Reach
+given i n =
+    record { ok = is_small (outer (record { ok = true; range = i; spread = n })); range = i; spread = n }
+
+-- r, where the value is known to lie in this range
+abbrev pub claimed : Reach → Interval → Reach
+claimed r i = record { ok = r.ok; range = i; spread = r.spread }
+
+-- r says as much as s or more
+abbrev pub is_within : Reach → Reach → Bool
+is_within r s = (r.ok && coef_le s.range.low r.range.low) && (coef_le r.range.high s.range.high && non_neg (pos s.spread -ℤ pos r.spread))
+
+-- empty: a goal of this type shows the numerals found, and those wanted
+pub data Exceeds (found wanted : Reach) : Type 0 where
+
+abbrev pub Reaches : Reach → Reach → Type 0
+Reaches r s = Unless (is_within r s) (Exceeds r s)
+
+-- numerals: between the fractions m / d and n / d, with this spread
+abbrev pub from_to : ℤ → ℤ → ℕ → ℕ → Reach
+from_to m n d spread = record { ok = true; range = record { low = record { num = m; under = d - 1 }; high = record { num = n; under = d - 1 } }; spread = spread }
+
+-- a bounded interval of at most this width that holds the value, which lies in the range
+pub record IsGiven (v : Iv) (x : ℚ) (range : Interval) (width : ℕ) : Type 0 where
+  pub holds : Holds v x
+  pub bounded : IsBounded v
+  pub within : width_of v ≤ width
+  pub inside : Inside range x
