@@ -1,0 +1,13 @@
+//! Texts, windows of time and element sets; with the decimals and instants that they are made of.
+#![tactic(auto)]
+
+mod elements;
+mod text;
+mod window;
+
+pub use civil_time::Instant;
+pub use decimals::Decimal;
+pub use elements::Elements;
+pub use std::alloc::AllocError as OutOfMemory;
+pub use text::Text;
+pub use window::Window;
