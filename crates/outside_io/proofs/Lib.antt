@@ -1,2 +1,3 @@
 pub mod CountsLemmas
+mod FolderLemmas
 pub mod Puts

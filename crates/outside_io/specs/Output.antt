@@ -12,8 +12,8 @@ pub record Output : Type 0 where
   pub faults : ℕ
 
 -- a put of this piece fails: its number is listed, or the piece does not fit the room
-abbrev pub FailsAt : Output → List ℕ → Type 0
-FailsAt out piece = Contains out.failing (one_more out.calls) ⊎ (out.room < length out.bytes + length piece)
+abbrev pub PutFails : Output → List ℕ → Type 0
+PutFails out piece = Contains out.failing (one_more out.calls) ⊎ (out.room < length out.bytes + length piece)
 
 -- what a put that fails appends: the first half of the piece, rounded down, as far as it fits
 abbrev pub half : Output → List ℕ → List ℕ

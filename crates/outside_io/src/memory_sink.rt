@@ -62,14 +62,14 @@ impl Sink for MemorySink {
     ghost use Rattle.std.specs.Prelude.{◌≡◌, ◌≤◌, ◌↔◌, Some, IsErr, OnOk, OnErr};
     ghost use Rattle.outside_io.specs.Counts.{Rose};
     ghost use Rattle.outside_io.specs.Written.{Grew, GrewByFront};
-    ghost use Rattle.outside_io.specs.Output.{FailsAt, after_put, after_fault};
+    ghost use Rattle.outside_io.specs.Output.{PutFails, after_put, after_fault};
 
     ghost written = { λ s. Some s.bytes };
 
     ghost faults = { λ s. s.faults };
 
     fn put(&mut self, piece: &[u8]) -> Result<(), Failed>
-        ensures fails { IsErr result ↔ FailsAt self.old piece.now }
+        ensures fails { IsErr result ↔ PutFails self.old piece.now }
         ensures ok { OnOk result (self.new ≡ after_put self.old piece.now) }
         ensures err { OnErr result (self.new ≡ after_fault self.old piece.now) }
         ensures later { self.old.faults ≤ self.new.faults }
