@@ -31,3 +31,7 @@ pub mod Quarters
 pub mod SumsSlope
 pub mod PairSlopes
 pub mod Quotients
+pub mod Powers
+mod Crossing
+pub mod RootExists
+pub mod RootLipschitz

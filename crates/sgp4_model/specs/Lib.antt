@@ -25,6 +25,7 @@ pub mod Rates
 pub mod Records
 pub mod Root
 pub mod Sidereal
+pub mod RootLaws
 pub mod Slope
 pub mod Sun
 pub mod Time

@@ -4,6 +4,7 @@
 pub mod certified_laws;
 pub mod laws;
 pub mod order_laws;
+pub mod root_laws;
 pub mod span;
 
 pub use span::{Mark, Span};
