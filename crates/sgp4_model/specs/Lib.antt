@@ -19,7 +19,6 @@ pub mod MeanElements
 pub mod MeanMotion
 pub mod Numerals
 pub mod OrbitRecords
-pub mod PairLaws
 pub mod Position
 pub mod Rates
 pub mod Records
