@@ -1,1 +1,4 @@
+pub mod DateLemmas
 pub mod YearLemmas
+pub mod StampLemmas
+pub mod TextLemmas

@@ -2,6 +2,8 @@
 #![tactic(auto)]
 
 mod instant;
+pub mod laws;
+mod text;
 mod year;
 
 pub use instant::Instant;
