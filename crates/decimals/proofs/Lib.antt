@@ -1,1 +1,3 @@
 pub mod NormalLemmas
+pub mod OrderLemmas
+pub mod UnitsLemmas

@@ -26,15 +26,17 @@ impl Model for Decimal {
 
 impl Decimal {
     ghost use Rattle.std.specs.Prelude.{pos};
-    ghost use Rattle.decimals.specs.Decimal.{IsDecimal};
+    ghost use Rattle.decimals.specs.Decimal.{IsDecimal, value};
+    ghost use Rattle.exact.specs.Rational.{ratio};
     ghost use Rattle.decimals.specs.Normal.{normal, signed};
 
     /// The decimal `digits / 10^places`, without the zeros at its end.
-    #[tactic(auto, using(crate::proofs::NormalLemmas::shortest_is_short))]
+    #[tactic(auto, using(crate::proofs::NormalLemmas::shortest_is_short, crate::proofs::UnitsLemmas::value_normal))]
     pub fn of_scaled(digits: i64, places: u8) -> Decimal
         requires digits { unsigned_abs digits < 10 ^ 18 }
         requires places { places ≤ 18 }
-        ensures { result ≡ normal digits places }
+        ensures form { result ≡ normal digits places }
+        ensures value { value result ≡ ratio digits (10 ^ places) }
     {
         let (size, left) = shortest(digits.unsigned_abs(), places);
         Decimal::of_parts(digits < 0, size, left)

@@ -2,6 +2,9 @@
 #![tactic(auto)]
 
 mod decimal;
+mod laws;
+mod order;
 mod shortest;
 
 pub use decimal::Decimal;
+pub use laws::equal_values_are_equal;
