@@ -14,6 +14,10 @@ pub record Extent : Type 0 where
 abbrev pub width_of : Iv → ℕ
 width_of v = unsigned_abs (v.hi -ℤ v.lo)
 
+-- an interval, with its own width as the spread
+abbrev pub extent_of : Iv → Extent
+extent_of v = record { ends = v; spread = width_of v }
+
 -- the larger size of an end, in units of 2^-48
 abbrev pub size : Iv → ℕ
 size v = max (unsigned_abs v.lo) (unsigned_abs v.hi)
