@@ -1,0 +1,7 @@
+pub mod Found
+pub mod Keys
+pub mod Options
+pub mod Placed
+pub mod Places
+pub mod Roles
+pub mod Steps

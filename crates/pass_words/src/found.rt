@@ -1,0 +1,58 @@
+//! The places of the values that were found.
+ghost use Rattle.std.specs.Prelude.{◌≡◌};
+ghost use Rattle.pass_words.specs.Found.{places_in};
+ghost use Rattle.pass_words.specs.Places.{none_yet, filled};
+
+use crate::key::Opt;
+use crate::part::Part;
+
+/// For each key where its value stands, if it was found.
+#[derive(Clone, Copy, Debug)]
+pub(crate) struct Found {
+    lat: Option<Part>,
+    lon: Option<Part>,
+    start: Option<Part>,
+    end: Option<Part>,
+    res: Option<Part>,
+}
+
+impl Found {
+    /// Nothing found.
+    pub(crate) fn none() -> Found
+        ensures { places_in result ≡ none_yet }
+    {
+        Found {
+            lat: None,
+            lon: None,
+            start: None,
+            end: None,
+            res: None,
+        }
+    }
+
+    /// Where the value of the key stands.
+    pub(crate) fn place(&self, key: Opt) -> Option<Part>
+        ensures { result ≡ places_in self.now key }
+    {
+        match key {
+            Opt::Lat => self.lat,
+            Opt::Lon => self.lon,
+            Opt::Start => self.start,
+            Opt::End => self.end,
+            Opt::Res => self.res,
+        }
+    }
+
+    /// Adds the place of a key's value.
+    pub(crate) fn add(&mut self, key: Opt, part: Part)
+        ensures { places_in self.new ≡ filled key part (places_in self.old) }
+    {
+        match key {
+            Opt::Lat => self.lat = Some(part),
+            Opt::Lon => self.lon = Some(part),
+            Opt::Start => self.start = Some(part),
+            Opt::End => self.end = Some(part),
+            Opt::Res => self.res = Some(part),
+        }
+    }
+}
