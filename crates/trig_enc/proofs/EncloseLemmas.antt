@@ -15,7 +15,7 @@ use Rattle.sgp4_model.proofs.Horner.{cosine_neg}
 use Rattle.sgp4_model.proofs.InCode.{shifted_point}
 use Rattle.sgp4_model.proofs.Lipschitz.{sine_pairs_are_lipschitz}
 use Rattle.sgp4_model.proofs.Pythagoras.{sine_pairs_are_bounded}
-use Rattle.sgp4_model.proofs.Span.{sums}
+use Rattle.sgp4_model.proofs.AngleSpan.{sums}
 use Rattle.fixed_iv.specs.Ends.{in_units}
 use Rattle.fixed_iv.specs.Holds.{Holds, IsBounded}
 use Rattle.fixed_iv.specs.declared.iv.Iv.{Iv}

@@ -2,7 +2,7 @@ use Rattle.std.proofs.Common.{◌≡◌, ℤ, ◌-◌, ◌/◌, to_z, of_z, w64}
 use lib.IntN.{nat_abs}
 use Rattle.sgp4_model.specs.Angle.{quadrant, turned}
 use Rattle.sgp4_model.proofs.Pythagoras.{sine_pairs_are_bounded}
-use Rattle.sgp4_model.proofs.Span.{sums}
+use Rattle.sgp4_model.proofs.AngleSpan.{sums}
 use Rattle.trig_enc.specs.Coded.{IsCodedPair, IsSignedSine, decoded}
 use Rattle.trig_enc.specs.Enclose.{HoldsNear}
 use Rattle.trig_enc.proofs.WholeLemmas.{kept_narrow, kept_positive, quarters_size, rest_size}
