@@ -2,3 +2,4 @@ pub mod DateLemmas
 pub mod YearLemmas
 pub mod StampLemmas
 pub mod TextLemmas
+pub mod DifferLemmas

@@ -1,5 +1,5 @@
 -- The digits of numbers, and what the printer writes in terms of them.
-use Rattle.std.proofs.Common.{length, drop, get_or, ◌≡◌, ℕ, zero, suc, ◌+◌, ◌*◌, ◌/◌, ◌%◌, ◌^◌, ◌<◌, refl, sym, ap, ◌∙◌, arith, List, [], ◌∷◌}
+use Rattle.std.proofs.Common.{length, drop, get_or, ◌≡◌, ℕ, zero, suc, ◌+◌, ◌*◌, ◌/◌, ◌%◌, ◌^◌, ◌<◌, refl, sym, ap, ◌∙◌, arith, List, [], ◌∷◌, ◌++◌}
 use Rattle.std.proofs.Math.Nat.{div-div-eq-div-mul, mod-mod, mod-lt, mod-eq_of_lt, mul_comm}
 use Rattle.std.proofs.Math.Arith.{mod-mul}
 use Rattle.std.proofs.lemmas.Nat.{div-mul-add, mod-mul-add, div_below, pow-add}
@@ -45,14 +45,14 @@ fixed_digits-same (suc count) a b e =
     let same = parts_same (a / c % 10) (b / c % 10) c (a % c) (b % c) (mod-lt a positive) (mod-lt b positive) (sym (high_low count a) ∙ e ∙ high_low count b) in
     cons_same _ _ _ _ (ap (λ x. 48 + x) same.0) (fixed_digits-same count a b same.1)
 
--- and name it
-pub fixed_digits-injective : (count a b : ℕ) → fixed_digits count a ≡ fixed_digits count b → a % 10 ^ count ≡ b % 10 ^ count
+-- digits before the same or another rest name the number, and the rest
+pub fixed_digits-then : (count a b : ℕ) (xs ys : List ℕ) → fixed_digits count a ++ xs ≡ fixed_digits count b ++ ys → (a % 10 ^ count ≡ b % 10 ^ count) × (xs ≡ ys)
 unfolding fixed_digits
-fixed_digits-injective zero a b e = omega arith
-fixed_digits-injective (suc count) a b e =
-    let first : a / 10 ^ count % 10 ≡ b / 10 ^ count % 10 = omega (arith, ap (λ xs. get_or xs 0 0) e) in
-    let rest : a % 10 ^ count ≡ b % 10 ^ count = fixed_digits-injective count a b (ap (drop 1) e) in
-    rw (high_low count a, high_low count b, first, rest) refl
+fixed_digits-then zero a b xs ys e = (omega arith, e)
+fixed_digits-then (suc count) a b xs ys e =
+    let first : a / 10 ^ count % 10 ≡ b / 10 ^ count % 10 = omega (arith, ap (λ zs. get_or zs 0 0) e) in
+    let rest = fixed_digits-then count a b xs ys (ap (drop 1) e) in
+    (rw (high_low count a, high_low count b, first, rest.0) refl, rest.1)
 
 -- what is left of a quotient after its first digits
 rest_of : (count left n : ℕ) → n % (10 ^ count * 10 ^ left) / 10 ^ left % 10 ^ count ≡ n / 10 ^ left % 10 ^ count
