@@ -1,3 +1,4 @@
 pub mod NormalLemmas
 pub mod OrderLemmas
 pub mod UnitsLemmas
+mod KnownValues

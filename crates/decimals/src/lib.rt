@@ -2,9 +2,11 @@
 #![tactic(auto)]
 
 mod decimal;
+mod fault;
 mod laws;
 mod order;
 mod shortest;
 
 pub use decimal::Decimal;
+pub use fault::NumFault;
 pub use laws::equal_values_are_equal;
