@@ -1,0 +1,2 @@
+pub mod DayLayout
+pub mod Refusals
