@@ -1,0 +1,3 @@
+mod CubeLemmas
+mod SquareLemmas
+mod WholeLemmas
