@@ -1,0 +1,40 @@
+//! What a track is read from: a judge of closed cells.
+
+ghost use Rattle.std.specs.Prelude.{ℕ, ◌≡◌, ◌+◌, ◌<◌, ◌≤◌};
+ghost use Rattle.exact.specs.Rational.{ℚ};
+ghost use Rattle.sgp4_model.specs.Time.{Throughout};
+
+/// What a judge says of a closed cell.
+#[derive(Clone, Copy, PartialEq, Eq, Debug)]
+pub enum Verdict {
+    /// Yes holds throughout.
+    Yes,
+    /// No holds throughout.
+    No,
+    /// Neither is certain.
+    Unsure,
+}
+
+/// Something that tells, of each closed cell of its window, what certainly holds throughout. Ticks count 100
+/// microseconds from the window's start. The meanings speak of each place of the window, whole or not.
+pub trait Judge {
+    ghost tick_count: { Self → ℕ };
+
+    ghost yes_at: { Self → ℚ → Type 0 };
+
+    ghost no_at: { Self → ℚ → Type 0 };
+
+    ghost grazes_at: { Self → ℚ → Type 0 };
+
+    /// How many ticks the window has.
+    fn ticks(&self) -> u64
+        ensures { result ≡ tick_count self.now };
+
+    /// What certainly holds throughout the closed cell. `Unsure` says that it grazes only of a cell of one tick.
+    fn judge(&self, from: u64, to: u64) -> Verdict
+        requires not_empty { from < to }
+        requires inside { to ≤ tick_count self.now }
+        ensures yes { result ≡ Verdict.Yes → Throughout from to (yes_at self.now) }
+        ensures no { result ≡ Verdict.No → Throughout from to (no_at self.now) }
+        ensures unsure { result ≡ Verdict.Unsure → to ≡ from + 1 → Throughout from to (grazes_at self.now) };
+}
