@@ -1,15 +1,20 @@
 -- What the definitions see of a judge and of the answer for a track.
 use Rattle.std.specs.Prelude.{ℕ, List, [], length}
-use Rattle.exact.specs.Rational.{ℚ}
 use Rattle.sgp4_model.specs.Records.{AnswerRecord, spans, unresolved, full}
-use Rattle.sgp4_model.specs.Certified.{TrackRecord}
+use Rattle.sgp4_model.specs.Certified.{TrackRecord, IsCertified}
 use Rattle.sgp4_model.specs.declared.span.Span.{Span}
+use Rattle.span_bisect.specs.declared.judge.Judge.{Ghosts}
 use Rattle.span_bisect.specs.declared.track.TrackAnswer.{TrackAnswer}
 use Rattle.span_bisect.specs.declared.track.TrackAnswer.TheVariants.{Spans, Unresolved, Full}
 
--- the track of a judge: its number of ticks, and its meanings
-abbrev pub track_of : ℕ → (ℚ → Type 0) → (ℚ → Type 0) → (ℚ → Type 0) → TrackRecord
-track_of ticks yes_at no_at grazes_at = record { ticks = ticks; yes = yes_at; no = no_at; grazes = grazes_at }
+-- the track of a judge: its number of ticks, and what its meanings say of each place
+abbrev pub track_of : {J : Type 0} → Ghosts J → J → TrackRecord
+track_of meanings judge = record {
+  ticks = meanings.tick_count judge;
+  yes = meanings.yes_at judge;
+  no = meanings.no_at judge;
+  grazes = meanings.grazes_at judge;
+}
 
 -- the plain record of an answer, which has the count of its spans alone
 abbrev pub answer_record : TrackAnswer → AnswerRecord
@@ -22,3 +27,7 @@ abbrev pub answer_spans : TrackAnswer → List Span
 answer_spans (Spans list) = list
 answer_spans (Unresolved _ _) = []
 answer_spans (Full _) = []
+
+-- the answer is certified, where there is room for so many spans, and none were there before
+abbrev pub IsAnswer : TrackRecord → ℕ → ℕ → TrackAnswer → Type 0
+IsAnswer track resolution room answer = IsCertified track resolution room 0 (answer_record answer) (answer_spans answer)

@@ -2,8 +2,7 @@
 
 ghost use Rattle.std.specs.Prelude.{◌≡◌, ◌<◌, ◌≤◌, List, [], ◌∷◌, ◌++◌, length, true, false, Ok, IfOk};
 ghost use Rattle.arrayvec.specs.ArrayVec.{array_vec_len};
-ghost use Rattle.sgp4_model.specs.Certified.{IsCertified};
-ghost use Rattle.span_bisect.specs.Answer.{answer_record, answer_spans, track_of};
+ghost use Rattle.span_bisect.specs.Answer.{IsAnswer, track_of};
 ghost use Rattle.span_bisect.specs.Part.{IsPart};
 ghost use Rattle.span_bisect.specs.Stack.{IsStack};
 
@@ -24,7 +23,7 @@ pub fn cover<J: Judge>(
     requires ticks { (1 ≤ J.tick_count judge.now) × (J.tick_count judge.now ≤ 8640000000) }
     requires resolution { (1 ≤ resolution) × (resolution ≤ 600000) }
     requires room { room ≤ 1048576 }
-    ensures certified { IfOk result (λ c. IsCertified (track_of (J.tick_count judge.now) (J.yes_at judge.now) (J.no_at judge.now) (J.grazes_at judge.now)) resolution room 0 (answer_record c.answer) (answer_spans c.answer)) }
+    ensures certified { IfOk result (λ c. IsAnswer (track_of J.Judge judge.now) resolution room c.answer) }
 {
     let mut ends: ArrayVec<u64, 64> = ArrayVec::new();
     ends.push(judge.ticks());
@@ -76,7 +75,7 @@ fn end_span(spans: &mut Vec<Span>, span: Span, room: u32) -> Result<bool, AllocE
 fn next_part<J: Judge>(judge: &J, at: u64, ends: &mut ArrayVec<u64, 64>, cells: &mut u64) -> Span
     requires more { 0 < array_vec_len ends.old }
     requires stack { IsStack (J.tick_count judge.now) at ends.old.items }
-    ensures part { IsPart (track_of (J.tick_count judge.now) (J.yes_at judge.now) (J.no_at judge.now) (J.grazes_at judge.now)) at result }
+    ensures part { IsPart (track_of J.Judge judge.now) at result }
     ensures stack { IsStack (J.tick_count judge.now) result.to ends.new.items }
 {
     let Some(mut to) = ends.pop() else {

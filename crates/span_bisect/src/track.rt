@@ -7,7 +7,7 @@ use sgp4_model::Span;
 use std::marker::Model;
 
 /// The spans of a window, in order.
-#[derive(Drop)]
+#[derive(Debug, Drop)]
 pub struct Track {
     spans: Vec<Span>,
 }
@@ -45,7 +45,7 @@ impl Track {
 }
 
 /// What became of a track. Ends count ticks.
-#[derive(Drop)]
+#[derive(Debug, Drop)]
 pub enum TrackAnswer {
     /// Its spans tile the window.
     Spans(Track),
@@ -56,7 +56,7 @@ pub enum TrackAnswer {
 }
 
 /// The answer for a track, and how many verdicts it took.
-#[derive(Drop)]
+#[derive(Debug, Drop)]
 pub struct Cover {
     pub answer: TrackAnswer,
     pub cells: u64,

@@ -6,7 +6,7 @@ use Rattle.span_bisect.proofs.bisect.cover.Given as goal
 
 abbrev pub invariant-loop-ends : goal.invariant-loop-ends
 invariant-loop-ends g l = record {
-  read : IsReadTo (track_of (g.J.Judge.tick_count l.judge) (g.J.Judge.yes_at l.judge) (g.J.Judge.no_at l.judge) (g.J.Judge.grazes_at l.judge)) l.resolution l.spans.items l.run;
+  read : IsReadTo (track_of g.J.Judge l.judge) l.resolution l.spans.items l.run;
   stack : IsStack (g.J.Judge.tick_count l.judge) l.run.to l.ends.items;
   room : length l.spans.items ≤ l.room;
 }
