@@ -1,5 +1,5 @@
 -- One lemma an operation: what numerals say of its arguments, they say of its result.
-use Rattle.std.proofs.Common.{◌≡◌, arith, true, ℕ, ◌+◌, ◌*◌, ◌/◌, ◌^◌, ◌≤◌, ⊎_elim, [], ◌∷◌, T, Bool, sym, subst, pos, negsuc, ◌-ℤ◌, le_trans as nat_trans, le_refl}
+use Rattle.std.proofs.Common.{◌≡◌, arith, ℕ, ◌+◌, ◌*◌, ◌/◌, ◌^◌, ◌≤◌, ⊎_elim, [], ◌∷◌, T, Bool, sym, subst, pos, negsuc, ◌-ℤ◌, le_trans as nat_trans, le_refl}
 use Rattle.std.proofs.Math.Nat.{mul-le-mul}
 use Rattle.std.proofs.lemmas.Int.{ints}
 use lib.Signed.{non_neg}
@@ -14,7 +14,7 @@ use Rattle.fixed_iv.specs.Extent.{Extent, AreSmall, IsNarrow, size, width_of}
 use Rattle.fixed_iv.specs.Holds.{Holds, IsBounded}
 use Rattle.fixed_iv.specs.Narrow.{IsNarrowConstant, IsNarrowDifference, IsNarrowNegative, IsNarrowProduct, IsNarrowSum, IsNarrowTurn, IsTurnOf}
 use Rattle.fixed_iv.specs.Place.{Place}
-use Rattle.fixed_iv.specs.Reach.{Reach, IsKnown, IsHeld, outer, outer_size, is_small, is_within, Exceeds, Reaches, claimed, nothing, given, IsGiven, grain, interval_neg, ◌+ᴿ◌, ◌-ᴿ◌, ◌*ᴿ◌, negative, turned, turn_range}
+use Rattle.fixed_iv.specs.Reach.{Reach, IsKnown, IsHeld, outer, outer_size, is_small, is_within, Exceeds, Reaches, claimed, nothing, given, IsGiven, reach_of, grain, interval_neg, ◌+ᴿ◌, ◌-ᴿ◌, ◌*ᴿ◌, negative, turned, turn_range}
 use Rattle.fixed_iv.specs.Results.{IsNegativeOf, IsResultOf}
 use Rattle.fixed_iv.specs.declared.iv.Iv.{Iv}
 use Rattle.fixed_iv.proofs.OuterLemmas.{both, in_outer, interval_neg_holds, size_known, small_holds}
@@ -24,7 +24,7 @@ abbrev pub Contained : {A : Type 0} → (A → Place → ℚ → Type 0) → (A 
 Contained {A} meaning extent = (a : A) (h : Place) (x : ℚ) → meaning a h x → Holds (extent a).ends x
 
 -- the known facts of a result, from the rule of its operation
-by_rule : {arguments : Type 0} {exact : ℚ → Type 0} {limit : ℕ → Type 0} (e : Extent) (x : ℚ) (i : Interval) (n : ℕ) →
+pub by_rule : {arguments : Type 0} {exact : ℚ → Type 0} {limit : ℕ → Type 0} (e : Extent) (x : ℚ) (i : Interval) (n : ℕ) →
     IsNarrow arguments exact limit e → arguments → AreSmall exact → Inside i x → (limit e.spread → e.spread ≤ n) → IsKnown e x i n
 by_rule e x i n rule a s h f =
     let b = rule.bounded a s in
@@ -172,12 +172,12 @@ turn_held {E = E} {a} {s} {c} {h} {p} {x} {y} {z} {r} covers narrow pi i k =
 
 -- ---- a given interval
 known_constant : (v : Iv) (r : Extent) (x : ℚ) (i : Interval) (n : ℕ) → IsNarrowConstant v r → Holds v x → IsBounded v → width_of v ≤ n → Inside i x →
-    T (is_small (outer (record { ok = true; range = i; spread = n }))) → IsKnown r x i n
+    T (is_small (outer (reach_of i n))) → IsKnown r x i n
 known_constant v r x i n rule hx b w h t =
     by_rule r _ _ _ rule b small h (λ f. nat_trans f w)
   where
     small : AreSmall (Holds v)
-    small z hz = small_holds _ z t (in_outer (record { ends = v; spread = width_of v }) x (record { ok = true; range = i; spread = n })
+    small z hz = small_holds _ z t (in_outer (record { ends = v; spread = width_of v }) x (reach_of i n)
         (record { inside = h; measured = record { bounded = b; width = le_refl (width_of v) }; narrow = w }) hx z hz)
 
 pub constant_held : {A : Type 0} {C : A → Place → ℚ → Type 0} {E : A → Extent} {told : Bool} → {v : Iv} {r : A} {h : Place} {x : ℚ} {i : Interval} {n : ℕ} →

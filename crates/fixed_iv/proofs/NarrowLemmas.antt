@@ -112,7 +112,7 @@ product_narrow {a} {b} {v} t =
     limit lo hi n s e h = omega (arith, ints, e, in_parts lo hi s h)
 
 -- ---- lines
-at_most_abs : (n : ℕ) (z : ℤ) → pos n ≤ℤ z → n ≤ unsigned_abs z
+pub at_most_abs : (n : ℕ) (z : ℤ) → pos n ≤ℤ z → n ≤ unsigned_abs z
 at_most_abs n (pos z) h = omega (arith, ints)
 at_most_abs n (negsuc z) h = omega (arith, ints)
 

@@ -19,7 +19,7 @@ use Rattle.fixed_iv.proofs.EndLemmas.{at}
 use Rattle.fixed_iv.proofs.RatioLemmas.{in_units-ratio}
 
 -- ---- numbers as the checker computes with them
-number_ratio : (c : Coef) → number_of c ≡ ratio c.num (suc c.under)
+pub number_ratio : (c : Coef) → number_of c ≡ ratio c.num (suc c.under)
 unfolding ratio
 number_ratio c = refl
 

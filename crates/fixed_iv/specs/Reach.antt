@@ -1,11 +1,12 @@
 -- What numerals say of an enclosure: where its value lies, and how far its spread goes.
 -- The operations compute them for a result, as the enclosure's own operations do.
-use Rattle.std.specs.Prelude.{ℕ, suc, ◌+◌, ◌*◌, ◌/◌, ◌^◌, ◌-◌, ◌≤◌, max, Bool, true, false, ◌&&◌, T, ℤ, pos, negsuc, ◌+ℤ◌, ◌-ℤ◌, ◌*ℤ◌, unsigned_abs}
+use Rattle.std.specs.Prelude.{ℕ, zero, suc, ltb, ◌+◌, ◌*◌, ◌/◌, ◌^◌, ◌-◌, ◌≤◌, max, Bool, true, false, ◌&&◌, T, ℤ, pos, negsuc, ◌+ℤ◌, ◌-ℤ◌, ◌*ℤ◌, neg_ℤ, unsigned_abs}
+use Rattle.std.specs.Int.{int_max, int_min}
 use lib.Signed.{non_neg}
 use Rattle.algebra.proofs.Polynomials.{Unless}
 use Rattle.exact.specs.Rational.{ℚ}
 use Rattle.exact.proofs.RationalRing.{Coef}
-use Rattle.exact.proofs.Intervals.{Interval, Inside, interval_add, interval_mul, coef_neg, coef_le, floor}
+use Rattle.exact.proofs.Intervals.{Interval, Inside, interval_add, interval_mul, coef_max, coef_min, coef_neg, coef_le, floor}
 use Rattle.exact.proofs.Integers.{ceiling}
 use Rattle.fixed_iv.specs.Extent.{Extent, IsMeasured, width_of}
 use Rattle.fixed_iv.specs.Holds.{Holds, IsBounded}
@@ -46,6 +47,11 @@ lowest r = units_below r.range.low -ℤ pos r.spread
 
 abbrev pub highest : Reach → ℤ
 highest r = units_above r.range.high +ℤ pos r.spread
+
+-- the number, and 0 for a negative one
+abbrev pub above_0 : ℤ → ℕ
+above_0 (pos n) = n
+above_0 (negsuc n) = 0
 
 -- so many units of 2^-48
 abbrev pub in_fraction : ℤ → Coef
@@ -110,10 +116,68 @@ turn_range = record { low = record { num = negsuc 100000; under = 99999 }; high 
 unfoldable pub turned : Reach → Reach
 turned a = record { ok = a.ok; range = turn_range; spread = a.spread + 16 }
 
+-- a value in this range, and at most this spread
+abbrev pub reach_of : Interval → ℕ → Reach
+reach_of i n = record { ok = true; range = i; spread = n }
+
 -- of a given interval of at most this width, for a value in this range
 unfoldable pub given : Interval → ℕ → Reach
-given i n =
-    record { ok = is_small (outer (record { ok = true; range = i; spread = n })); range = i; spread = n }
+given i n = record { ok = is_small (outer (reach_of i n)); range = i; spread = n }
+
+-- of pi
+abbrev pub pi_range : Interval
+pi_range = record {
+  low = record { num = pos 3141592653589793238462643383279502884; under = 10 ^ 36 - 1 };
+  high = record { num = pos 3141592653589793238462643383279502885; under = 10 ^ 36 - 1 };
+}
+
+abbrev pub pi_reach : Reach
+pi_reach = record { ok = true; range = pi_range; spread = 1 }
+
+-- of a line between given intervals: from a value in a.range to one in b.range
+unfoldable pub lined : Reach → Reach → Reach
+lined a b =
+    record {
+      ok = is_small (outer a) && is_small (outer b);
+      range = record { low = coef_min a.range.low b.range.low; high = coef_max a.range.high b.range.high };
+      spread = unsigned_abs (int_max (highest a) (highest b) -ℤ int_min (lowest a) (lowest b));
+    }
+
+-- of the greater of a value and a number of a given interval
+unfoldable pub greater_of : Reach → Reach → Reach
+greater_of a floor =
+    record {
+      ok = (a.ok && is_small (outer a)) && is_small (outer floor);
+      range = record { low = coef_max a.range.low floor.range.low; high = coef_max a.range.high floor.range.high };
+      spread = max a.spread floor.spread;
+    }
+
+-- 1 / c, and 0 for 0
+abbrev pub coef_inverse : Coef → Coef
+coef_inverse c =
+    elim c.num [
+      | pos zero ↦ record { num = pos 0; under = 0 }
+      | pos (suc n) ↦ record { num = pos (suc c.under); under = n }
+      | negsuc n ↦ record { num = negsuc c.under; under = n }
+    ]
+
+-- the range of 1 / x for x in a range on one side of 0
+abbrev pub interval_inverse : Interval → Interval
+interval_inverse i = record { low = coef_inverse i.high; high = coef_inverse i.low }
+
+-- the least size of an end that the bounds can have, where they lie on one side of 0; else 0
+abbrev pub distance : Reach → ℕ
+distance r = max (above_0 (lowest r)) (above_0 (neg_ℤ (highest r)))
+
+-- of a quotient
+infixl 7 ◌/ᴿ◌
+unfoldable pub ◌/ᴿ◌ : Reach → Reach → Reach
+a /ᴿ b =
+    record {
+      ok = ((a.ok && b.ok) && ltb 0 (distance b)) && is_small (interval_mul grain (outer a) (interval_inverse (outer b)));
+      range = interval_mul grain a.range (interval_inverse b.range);
+      spread = (a.spread * 281474976710656 * distance b + outer_size a * b.spread * 281474976710656) / (distance b * distance b) + 2;
+    }
 
 -- r, where the value is known to lie in this range
 abbrev pub claimed : Reach → Interval → Reach
