@@ -5,12 +5,13 @@ use Rattle.std.proofs.lemmas.Bool.{cases_lt, lt-ltb, le-ltb}
 use Rattle.std.proofs.Common.{inl, inr, ◌≡◌, ℕ, zero, suc, ◌+◌, ◌-◌, ◌<◌, ◌≤◌, refl, sym, ◌∙◌, arith, ℤ, pos, ◌+ℤ◌}
 use Rattle.jiff_core.specs.Calendar.{days_in_year, days_in_month, days_of_months, day_count}
 use Rattle.jiff_core.proofs.SignedLemmas.{signed_arith}
-use Rattle.jiff_core.proofs.CalendarLemmas.{days_from_civil-day_count, day_count-next_year, day_count-next_month, day_count-day, days_of_months_all, days_of_months_more, days_of_months-zero, day_count-day_of_year, day_of_year_bound}
+use Rattle.jiff_core.proofs.CalendarLemmas.{days_from_civil-day_count, day_count-next_year, day_count-next_month, day_count-day, days_of_months_all, days_of_months_more, days_of_months-zero}
 use Rattle.jiff_core.proofs.DateLemmas.{epoch_day_injective}
 use Rattle.jiff_core.specs.Date.{epoch_day}
 use Rattle.jiff_core.specs.declared.civil.date.Date.{Date}
-use Rattle.civil_time.specs.CivilDate.{CivilDate, date_from_month, date_from_year, date_of_day, IsInstantDay, IsDateOf}
-use Rattle.civil_time.proofs.YearLemmas.{day_count-first, day_count-end, year_days}
+use Rattle.civil_time.specs.Scale.{IsInstantDay}
+use Rattle.civil_time.specs.CivilDate.{CivilDate, date_from_month, date_from_year, date_of_day, IsDateOf}
+use Rattle.civil_time.proofs.YearLemmas.{civil_day, day_count-first, day_count-end}
 
 -- the date lies in the year, and its day follows the first of the month by so many days
 pub record IsDaysFrom (year month days : ℕ) (date : CivilDate) : Type 0 where
@@ -118,12 +119,7 @@ dates_are_of_the_calendar day h =
 -- a date of the years has its number among theirs
 pub date_range : (date : CivilDate) (day : ℤ) → IsDateOf day date → IsInstantDay day
 date_range date day h =
-    let y = pos date.year in
-    let days = year_days y h.of_the_years in
-    let first = day_count-day_of_year y date.month date.day h.of_the_calendar.2.0 in
-    let bound = day_of_year_bound y date.month date.day h.of_the_calendar in
-    let number = days_from_civil-day_count y date.month date.day in
-    (omega (arith, signed_arith, h.numbered), omega (arith, signed_arith, h.numbered))
+    rw h.numbered at (civil_day (pos date.year) date.month date.day h.of_the_years h.of_the_calendar)
 
 -- the calendar's own record of a date
 abbrev as_date : (date : CivilDate) (day : ℤ) → IsDateOf day date → Date

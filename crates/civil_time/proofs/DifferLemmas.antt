@@ -8,8 +8,8 @@ use Rattle.std.proofs.lemmas.Nat.{div_below, pow-add}
 use Rattle.jiff_core.proofs.SignedLemmas.{signed_arith, int_div_euclid-parts, int_rem_euclid-parts}
 use Rattle.jiff_core.proofs.CalendarLemmas.{days_in_month_bounds}
 use Rattle.jiff_fmt.proofs.ReaderLemmas.{ten_pow-pos}
-use Rattle.civil_time.specs.Scale.{scale_zero, day_nanos, IsInstant}
-use Rattle.civil_time.specs.CivilDate.{CivilDate, date_of_day, IsInstantDay}
+use Rattle.civil_time.specs.Scale.{IsInstantDay, scale_zero, day_nanos, IsInstant}
+use Rattle.civil_time.specs.CivilDate.{CivilDate, date_of_day}
 use Rattle.civil_time.specs.InstantText.{fixed_digits, date_text, clock_text, instant_text, day_of_instant, nanos_of_day, IsWholeIn}
 use Rattle.civil_time.proofs.DateLemmas.{dates_are_of_the_calendar}
 use Rattle.civil_time.proofs.StampLemmas.{instant_day}

@@ -1,3 +1,4 @@
+pub mod ColumnLemmas
 pub mod DateLemmas
 pub mod YearLemmas
 pub mod StampLemmas

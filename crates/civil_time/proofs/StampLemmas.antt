@@ -12,8 +12,8 @@ use Rattle.jiff_core.specs.Time.{time_nanos}
 use Rattle.jiff_core.proofs.SignedLemmas.{signed_arith, int_rem_euclid-parts}
 use Rattle.jiff_core.proofs.DateTimeLemmas.{civil_nanos-parts, time_nanos_bound, epoch_day-civil_nanos}
 use Rattle.jiff_fmt.specs.Text as printed
-use Rattle.civil_time.specs.Scale.{scale_zero, IsInstant}
-use Rattle.civil_time.specs.CivilDate.{CivilDate, date_of_day, IsInstantDay}
+use Rattle.civil_time.specs.Scale.{IsInstantDay, scale_zero, IsInstant}
+use Rattle.civil_time.specs.CivilDate.{CivilDate, date_of_day}
 use Rattle.civil_time.specs.InstantText.{fixed_digits, date_text, clock_text, instant_text, day_of_instant, nanos_of_day}
 use Rattle.civil_time.proofs.DateLemmas.{dates_are_of_the_calendar, parts_of_day}
 use Rattle.civil_time.proofs.TextLemmas.{length-fixed_digits, pad2-digits, pad4-digits, places-digits}

@@ -1,11 +1,11 @@
 -- The day numbers of the first days of the years of instants.
-use Rattle.std.proofs.Common.{◌≡◌, ℕ, ◌+◌, ◌*◌, ◌<◌, ◌≤◌, refl, arith, ℤ, pos, neg_ℤ, ◌+ℤ◌}
+use Rattle.std.proofs.Common.{◌≡◌, ℕ, ◌+◌, ◌-◌, ◌*◌, ◌<◌, ◌≤◌, refl, arith, ℤ, pos, neg_ℤ, ◌+ℤ◌}
 use Rattle.std.proofs.lemmas.Int.{by_lt_z}
-use Rattle.jiff_core.specs.Calendar.{days_in_year, day_count, days_from_civil, IsBetween}
+use Rattle.jiff_core.specs.Calendar.{IsCivilDate, days_in_year, day_count, days_from_civil, IsBetween}
 use Rattle.jiff_core.proofs.SignedLemmas.{signed_arith}
 use Rattle.jiff_core.proofs.MarchLemmas.{day_count-early}
-use Rattle.jiff_core.proofs.CalendarLemmas.{days_from_civil-day_count, day_count-later_year, days_in_year_bounds}
-use Rattle.civil_time.specs.Scale.{IsInstantYear, IsInstant, start_of_year, day_nanos}
+use Rattle.jiff_core.proofs.CalendarLemmas.{days_from_civil-day_count, day_count-later_year, days_in_year_bounds, day_count-day_of_year, day_of_year_bound}
+use Rattle.civil_time.specs.Scale.{IsInstantDay, start_of_day, IsInstantYear, IsInstant, start_of_year, day_nanos}
 
 pub day_count-first : day_count (pos 1957) 1 1 ≡ 4367205
 day_count-first = day_count-early (pos 1957) 11956 1 1 refl (omega arith) (omega arith) (omega arith)
@@ -30,3 +30,23 @@ year_instants y n h lt =
 pub year_day : (y : ℤ) → IsInstantYear y → IsBetween (neg_ℤ (pos 4748)) (pos 31412) (days_from_civil y 1 1)
 year_day y h =
     omega (arith, signed_arith, year_days y h, days_in_year_bounds y, days_from_civil-day_count y 1 1)
+
+-- the number of a day of such a year, by its date
+pub civil_day : (y : ℤ) (m d : ℕ) → IsInstantYear y → IsCivilDate y m d → IsInstantDay (days_from_civil y m d)
+civil_day y m d h date =
+    let days = year_days y h in
+    let first = day_count-day_of_year y m d date.2.0 in
+    let bound = day_of_year_bound y m d date in
+    let number = days_from_civil-day_count y m d in
+    (omega (arith, signed_arith), omega (arith, signed_arith))
+
+-- and by its place in the year
+pub place_day : (y : ℤ) (n : ℕ) → IsInstantYear y → 1 ≤ n → n ≤ days_in_year y → IsInstantDay (days_from_civil y 1 1 +ℤ pos (n - 1))
+place_day y n h low high =
+    let days = year_days y h in
+    let number = days_from_civil-day_count y 1 1 in
+    (omega (arith, signed_arith), omega (arith, signed_arith))
+
+-- so many nanoseconds after such a day began
+pub day_instants : (day : ℤ) (n : ℕ) → IsInstantDay day → n < day_nanos → IsInstant (start_of_day day +ℤ pos n)
+day_instants day n h lt = omega (arith, signed_arith)

@@ -1,7 +1,7 @@
 -- The date of a day, by counting from 1957-01-01: whole years first, then the whole months of the year in which the day lies.
-use Rattle.std.specs.Prelude.{◌≡◌, ℕ, zero, suc, ◌+◌, ◌-◌, nat_lt, if◌then◌else◌, ℤ, pos, neg_ℤ, ◌+ℤ◌, unsigned_abs}
-use Rattle.jiff_core.specs.Calendar.{days_in_year, days_in_month, days_from_civil, IsCivilDate, IsBetween}
-use Rattle.civil_time.specs.Scale.{first_year, last_year, IsInstantYear}
+use Rattle.std.specs.Prelude.{◌≡◌, ℕ, zero, suc, ◌+◌, ◌-◌, nat_lt, if◌then◌else◌, ℤ, pos, ◌+ℤ◌, unsigned_abs}
+use Rattle.jiff_core.specs.Calendar.{days_in_year, days_in_month, days_from_civil, IsCivilDate}
+use Rattle.civil_time.specs.Scale.{first_year, last_year, days_before_1970, IsInstantYear, IsInstantDay}
 
 -- a date: the year, the month of the year and the day of the month, both from 1
 pub record CivilDate : Type 0 where
@@ -24,17 +24,9 @@ date_from_year year days (suc following) =
     if nat_lt days (days_in_year (pos year)) then date_from_month year 1 days 11
     else date_from_year (year + 1) (days - days_in_year (pos year)) following
 
--- the days from 1957-01-01 to 1970-01-01
-abbrev pub days_before_1970 : ℕ
-days_before_1970 = 4748
-
 -- the date of a day of the years 1957 to 2056, by the day's number from 1970-01-01
 unfoldable pub date_of_day : ℤ → CivilDate
 date_of_day day = date_from_year first_year (unsigned_abs (day +ℤ pos days_before_1970)) (last_year - first_year)
-
--- the days of the years 1957 to 2056
-abbrev pub IsInstantDay : ℤ → Type 0
-IsInstantDay day = IsBetween (neg_ℤ (pos days_before_1970)) (pos 31_776) day
 
 -- the day has this date in the calendar
 pub record IsDateOf (day : ℤ) (date : CivilDate) : Type 0 where

@@ -14,6 +14,14 @@ last_year = 2056
 abbrev pub IsInstantYear : ℤ → Type 0
 IsInstantYear year = IsBetween (pos first_year) (pos last_year) year
 
+-- the days from 1957-01-01 to 1970-01-01
+abbrev pub days_before_1970 : ℕ
+days_before_1970 = 4748
+
+-- the day is one of these years, by its number from 1970-01-01
+abbrev pub IsInstantDay : ℤ → Type 0
+IsInstantDay day = IsBetween (neg_ℤ (pos days_before_1970)) (pos 31_776) day
+
 -- the instant 1957-01-01T00:00:00
 abbrev pub first_instant : ℤ
 first_instant = neg_ℤ (pos 1_356_955_200_000_000_000)

@@ -1,7 +1,7 @@
 //! The instant, from its nanoseconds and from the place in a year.
 ghost use Rattle.std.specs.Prelude.{◌≡◌, ◌↔◌, ◌*◌, ◌<◌, pos, ◌+ℤ◌, IsTrue};
 
-use crate::year::start_of_year;
+use crate::calendar::{day_number, start_of_day};
 use std::marker::Model;
 
 /// The nanoseconds of 1957-01-01T00:00:00 UTC.
@@ -56,7 +56,7 @@ impl Instant {
         ensures { result ≡ start_of_year (pos year) +ℤ pos nanos_of_year }
     {
         Instant {
-            nanos: start_of_year(year) + nanos_of_year as i64,
+            nanos: start_of_day(day_number(year, 1, 1)) + nanos_of_year as i64,
         }
     }
 

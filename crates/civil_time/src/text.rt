@@ -4,13 +4,11 @@ ghost use Rattle.jiff_core.specs.DateTime.{civil_nanos};
 ghost use Rattle.civil_time.specs.InstantText.{instant_text};
 ghost use Rattle.civil_time.specs.Scale.{IsInstant, scale_zero};
 
+use crate::calendar::SCALE_ZERO;
 use crate::instant::Instant;
 use arrayvec::ArrayString;
 use jiff_core::civil::DateTime;
 use jiff_fmt::temporal::DateTimePrinter;
-
-/// The nanoseconds from 1970-01-01T00:00:00 UTC to 2000-01-01T12:00:00 UTC.
-const SCALE_ZERO: i128 = 946_728_000_000_000_000;
 
 impl Instant {
     /// The text `YYYY-MM-DDThh:mm:ss`, a point, so many decimals of the second, and `Z`. Later decimals are
@@ -35,5 +33,5 @@ fn date_time(instant: Instant) -> DateTime
     ensures value { civil_nanos result -ℤ pos scale_zero ≡ instant }
     ensures in_years { IsInstant instant }
 {
-    DateTime::from_nanosecond_in_range(i128::from(instant.nanos()) + SCALE_ZERO)
+    DateTime::from_nanosecond_in_range(i128::from(instant.nanos()) + i128::from(SCALE_ZERO))
 }
