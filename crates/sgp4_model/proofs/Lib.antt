@@ -35,3 +35,4 @@ pub mod Powers
 mod Crossing
 pub mod RootExists
 pub mod RootLipschitz
+pub mod MotionExists

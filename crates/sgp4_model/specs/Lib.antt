@@ -17,6 +17,7 @@ pub mod HigherDrag
 pub mod Kepler
 pub mod MeanElements
 pub mod MeanMotion
+pub mod MotionLaws
 pub mod Numerals
 pub mod OrbitRecords
 pub mod Position

@@ -3,6 +3,7 @@
 
 pub mod certified_laws;
 pub mod laws;
+pub mod motion_laws;
 pub mod order_laws;
 pub mod root_laws;
 pub mod span;
