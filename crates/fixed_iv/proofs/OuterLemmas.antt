@@ -32,7 +32,7 @@ below_is c = subst (λ t. of_int (units_below c) ≤ℚ t) (sym (in_units-number
 pub is_above : (c : Coef) → in_units (number_of c) ≤ℚ of_int (units_above c)
 is_above c = subst (λ t. t ≤ℚ of_int (units_above c)) (sym (in_units-number c)) (le_ceiling (c.num *ℤ pos 281474976710656) c.under)
 
-fraction_is_at : (z : ℤ) → number_of (in_fraction z) ≡ at z
+pub fraction_is_at : (z : ℤ) → number_of (in_fraction z) ≡ at z
 unfolding at ratio
 fraction_is_at z = ratio_is_product z 281474976710656
 
