@@ -1,3 +1,5 @@
 pub mod CountsLemmas
 mod FolderLemmas
 pub mod Puts
+mod ReadLemmas
+mod WriteLemmas

@@ -3,6 +3,8 @@ pub mod Folder
 pub mod Held
 pub mod Holding
 pub mod Loads
+pub mod Outlet
 pub mod Output
+pub mod Reading
 pub mod Supply
 pub mod Written

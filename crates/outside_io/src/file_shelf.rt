@@ -1,4 +1,6 @@
-ghost use Rattle.std.specs.Prelude.{◌≤◌, vec_len, IfOk};
+ghost use Rattle.std.specs.Prelude.{◌≤◌, ◌+◌, vec_len, IfOk, IsErrOf};
+ghost use Rattle.outside_io.specs.Held.{IsTold, IsLonger};
+ghost use Rattle.outside_io.specs.Reading.{TakesAtMost};
 
 use crate::shelf::{LoadFault, Shelf};
 use std::alloc::Global;
@@ -27,6 +29,7 @@ impl<R: Files> Model for FileShelf<R> {
 impl<R: Files> FileShelf<R> {
     ghost use Rattle.std.specs.Prelude.{◌≡◌};
 
+    /// A shelf of the files that the runtime gives access to, as `&rt`, with no fault so far.
     pub fn make(files: R) -> FileShelf<R>
         ensures { result ≡ record { faults = 0; overs = 0 } }
     {
@@ -78,7 +81,10 @@ impl<R: Files> Shelf for FileShelf<R> {
 
 // Reads to the end, and at most one byte past the room, in turns that each take a byte or end it.
 fn read_within<F: Read>(alloc: Global, file: &mut F, room: u64) -> Result<Vec<u8>, LoadFault>
-    ensures { IfOk result (λ v. vec_len v ≤ room) }
+    ensures told { IfOk result (λ v. IsTold (F.remaining file.old) v.items) }
+    ensures fits { IfOk result (λ v. vec_len v ≤ room) }
+    ensures longer { IsErrOf result LoadFault.TooLong → IsLonger (F.remaining file.old) room }
+    ensures taken { TakesAtMost (room + 1) (F.remaining file.old) (F.remaining file.new) }
 {
     let mut bytes = Vec::new(alloc);
     let mut chunk = [0u8; 4096];

@@ -9,6 +9,7 @@ use crate::sink::{Failed, Sink};
 pub struct NeverFailSink;
 
 impl NeverFailSink {
+    /// A sink that takes every piece.
     pub fn make() -> NeverFailSink {
         NeverFailSink
     }
