@@ -8,13 +8,13 @@ ghost use Rattle.root_enc.specs.Roots.{AreNearCubeRoots, HoldCubeRoots};
 use crate::whole::whole_cube_root;
 use fixed_iv::Iv;
 
-/// The tolerance of a root's cube, 2^-60, in parts of 2^-80: what the upper of two limbs counts.
+/// The tolerance of a root's cube, 2^-60, in parts of 2^-80, which the upper limb counts.
 const TOLERANCE: u128 = 1 << 20;
 
-/// Parts of 2^-80 in the square of a unit of 2^-48, the other way: so many squares are one part.
+/// Squares of a unit of 2^-48 in a part of 2^-80.
 const SQUARES: u128 = 1 << 16;
 
-/// What is left of the squares, in parts of 2^-144.
+/// Parts of 2^-144, which the lower limb counts, in the square of a unit.
 const PARTS: u128 = 1 << 48;
 
 /// An interval that holds every cube root of the square of every number that `x` holds. A number that is 0 or less

@@ -2,6 +2,7 @@
 #![tactic(auto)]
 
 mod cube;
+mod guess;
 mod square;
 mod whole;
 

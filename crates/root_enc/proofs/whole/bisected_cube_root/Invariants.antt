@@ -1,5 +1,5 @@
 use Rattle.std.proofs.Common.{◌-◌, ◌+◌, ◌*◌, ◌<◌, ◌≤◌}
-use Rattle.root_enc.proofs.whole.whole_cube_root.Given as goal
+use Rattle.root_enc.proofs.whole.bisected_cube_root.Given as goal
 
 -- the root is at least the one bound and below the other
 abbrev pub invariant-loop-under : goal.invariant-loop-under
