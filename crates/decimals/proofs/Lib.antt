@@ -1,4 +1,9 @@
 pub mod NormalLemmas
 pub mod OrderLemmas
 pub mod UnitsLemmas
+pub mod AsDecimalLemmas
+pub mod CutLemmas
+pub mod FitLemmas
 mod KnownValues
+pub mod ReadLemmas
+pub mod SignificantLemmas

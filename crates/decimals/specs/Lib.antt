@@ -5,4 +5,5 @@ pub mod Normal
 pub mod NumberText
 pub mod Order
 pub mod OrderLaws
+pub mod Significant
 pub mod Units

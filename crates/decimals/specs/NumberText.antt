@@ -25,30 +25,35 @@ is_point byte = byte == 46
 abbrev pub is_exponent_mark : ℕ → Bool
 is_exponent_mark byte = (byte == 69) || (byte == 101)
 
--- the fields of a text: whether it has a minus, what stands before the point and after it, and the exponent
+-- one digit or more, and nothing else
+abbrev pub are_digits : List ℕ → Bool
+are_digits bytes = list_all is_digit bytes && nat_le 1 (length bytes)
+
+-- the fields of a text: whether it has a minus, what stands before the point and after it, and the exponent's text
 pub record NumberFields : Type 0 where
   pub minus : Bool
   pub whole : List ℕ
   pub fraction : List ℕ
   pub exponent : Option (List ℕ)
 
--- a text is cut first behind its sign, then where the exponent begins, then at the point
+-- the fields of a sign, a mantissa and an exponent: the mantissa is cut at its first point
+abbrev pub fields_of : Bool → List ℕ → Option (List ℕ) → NumberFields
+fields_of minus mantissa exponent = record {
+  minus = minus;
+  whole = before_first is_point mantissa;
+  fraction = after_first is_point mantissa;
+  exponent = exponent;
+}
+
+-- the fields of a text, which is cut behind its sign and where the exponent begins
 abbrev pub number_fields : List ℕ → NumberFields
 number_fields text =
     let unsigned = without_leading_sign text in
-    let mantissa = before_first is_exponent_mark unsigned in
-    record {
-      minus = starts_with_minus text;
-      whole = before_first is_point mantissa;
-      fraction = after_first is_point mantissa;
-      exponent = option_map (λ at. drop (at + 1) unsigned) (position is_exponent_mark unsigned);
-    }
+    fields_of (starts_with_minus text) (before_first is_exponent_mark unsigned) (option_map (λ place. drop (place + 1) unsigned) (position is_exponent_mark unsigned))
 
 -- an exponent is a sign or none, and one to three digits
 abbrev pub is_exponent : List ℕ → Bool
-is_exponent text =
-    let digits = without_leading_sign text in
-    list_all is_digit digits && nat_le 1 (length digits) && nat_le (length digits) 3
+is_exponent text = let digits = without_leading_sign text in are_digits digits && nat_le (length digits) 3
 
 -- where there is an exponent, it has its form
 abbrev pub may_be_exponent : Option (List ℕ) → Bool
@@ -57,9 +62,7 @@ may_be_exponent (Some text) = is_exponent text
 
 -- before and after the point stand digits alone, and at least one
 abbrev pub is_number : NumberFields → Bool
-is_number fields =
-    let digits = fields.whole ++ fields.fraction in
-    list_all is_digit digits && nat_le 1 (length digits) && may_be_exponent fields.exponent
+is_number fields = may_be_exponent fields.exponent && are_digits (fields.whole ++ fields.fraction)
 
 -- the exponent as a whole number, and 0 where there is none
 abbrev pub exponent_of : Option (List ℕ) → ℤ

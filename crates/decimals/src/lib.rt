@@ -1,12 +1,19 @@
 //! Decimal numbers of at most 18 digits: their order, their reading and their printing.
 #![tactic(auto)]
 
+mod count;
+mod cut;
 mod decimal;
+mod exponent;
 mod fault;
+mod fit;
 mod laws;
 mod order;
+mod read;
 mod shortest;
+mod significant;
 
 pub use decimal::Decimal;
 pub use fault::NumFault;
 pub use laws::equal_values_are_equal;
+pub use read::read_decimal;
