@@ -1,0 +1,96 @@
+-- The small cases, one by one.
+use Rattle.std.proofs.Common.{arith, [], ◌∷◌, refl, pos}
+use Rattle.std.proofs.lemmas.List.Elements.{All-nil}
+use Rattle.exact.specs.Rational.{◌+ℚ◌, neg_ℚ, at_least_0, ratio, of_int}
+use Rattle.sgp4_model.specs.Time.{IsWithin}
+use Rattle.sgp4_model.specs.Certified.{IsTrueSpan, IsSoundUpTo}
+use Rattle.sgp4_model.proofs.CertifiedLemmas.{sound_lists_extend}
+use Rattle.rows_model.specs.SmallTrack.{small_track, yes_span, no_span, undecided_span, right_list}
+use Rattle.rows_model.specs.Tilings.{SmallTruths}
+use Rattle.rows_model.specs.Rows.{SpanRows, UnresolvedRows, FullRows}
+
+-- the place 7/2, between two ticks, lies in the cell from 0 to 4 and not in that from 0 to 3
+inside_4 : IsWithin 0 4 (ratio (pos 7) 2)
+unfolding of_int ratio ◌+ℚ◌ neg_ℚ at_least_0
+inside_4 = record { low = record { le = tt }; high = record { le = tt } }
+
+outside_3 : ¬ (IsWithin 0 3 (ratio (pos 7) 2))
+unfolding of_int ratio ◌+ℚ◌ neg_ℚ at_least_0
+outside_3 h = absurd h.high.le
+
+-- the place 1 lies in the cell from 0 to 2, and neither from 3 to 5 nor from 5 to 7
+inside_2 : IsWithin 0 2 (ratio (pos 1) 1)
+unfolding of_int ratio ◌+ℚ◌ neg_ℚ at_least_0
+inside_2 = record { low = record { le = tt }; high = record { le = tt } }
+
+inside_3 : IsWithin 0 3 (ratio (pos 1) 1)
+unfolding of_int ratio ◌+ℚ◌ neg_ℚ at_least_0
+inside_3 = record { low = record { le = tt }; high = record { le = tt } }
+
+before_3 : ¬ (IsWithin 3 5 (ratio (pos 1) 1))
+unfolding of_int ratio ◌+ℚ◌ neg_ℚ at_least_0
+before_3 h = absurd h.low.le
+
+before_5 : ¬ (IsWithin 5 7 (ratio (pos 1) 1))
+unfolding of_int ratio ◌+ℚ◌ neg_ℚ at_least_0
+before_5 h = absurd h.low.le
+
+visible : IsTrueSpan small_track 2 (yes_span 0 3)
+visible = record { yes = λ _ place h. h; no = λ e. absurd (cc); grazes = λ e. absurd (cc); short = λ e. absurd (cc) }
+
+hidden : IsTrueSpan small_track 2 (no_span 3 5)
+hidden = record { yes = λ e. absurd (cc); no = λ _ place h. h; grazes = λ e. absurd (cc); short = λ e. absurd (cc) }
+
+grazing : IsTrueSpan small_track 2 (undecided_span 5 7)
+grazing = record { yes = λ e. absurd (cc); no = λ e. absurd (cc); grazes = λ _ place h. h; short = λ _. omega arith }
+
+pub small_truths : SmallTruths
+small_truths = record {
+  visible = visible;
+  hidden = hidden;
+  grazing = grazing;
+  too_wide = λ h. outside_3 (h.yes refl (ratio (pos 7) 2) inside_4);
+  other_mark = λ h. before_3 (h.no refl (ratio (pos 1) 1) inside_3);
+  too_long = λ h. omega (arith, h.short refl);
+}
+
+-- the right list, a span at a time
+sound_none : IsSoundUpTo small_track 2 [] 0
+sound_none = record { tiles = refl; differ = tt; each = All-nil (IsTrueSpan small_track 2) }
+
+sound_one : IsSoundUpTo small_track 2 (yes_span 0 3 ∷ []) 3
+sound_one = sound_lists_extend small_track 2 [] (yes_span 0 3) sound_none tt (omega arith) visible
+
+sound_pair : IsSoundUpTo small_track 2 (yes_span 0 3 ∷ no_span 3 5 ∷ []) 5
+sound_pair = sound_lists_extend small_track 2 (yes_span 0 3 ∷ []) (no_span 3 5) sound_one (λ e. cc) (omega arith) hidden
+
+sound_list : IsSoundUpTo small_track 2 right_list 7
+sound_list = sound_lists_extend small_track 2 (yes_span 0 3 ∷ no_span 3 5 ∷ []) (undecided_span 5 7) sound_pair (λ e. cc) (omega arith) grazing
+
+pub span_rows : SpanRows
+span_rows = record {
+  right = (sound_list, refl);
+  miscounted = λ h. omega (arith, h.1);
+  gapped = λ h. omega (arith, h.0.tiles.2.0);
+  split = λ h. h.0.differ.1.0 refl;
+  empty = λ h. omega (arith, h.0.tiles);
+  coarse = λ h. omega (arith, (h.0.each 2 (yes_span 0 0) (omega arith)).short refl);
+}
+
+pub unresolved_rows : UnresolvedRows
+unresolved_rows = record {
+  right = (record { longer = refl; inside = omega arith; grazes = λ place h. h }, refl);
+  resolved = λ h. omega (arith, h.0.longer);
+  certain = λ h. before_5 (h.0.grazes (ratio (pos 1) 1) inside_2);
+  beyond = λ h. omega (arith, h.0.inside);
+  listed = λ h. cc;
+}
+
+pub full_rows : FullRows
+full_rows = record {
+  right = (record { list = yes_span 0 3 ∷ no_span 3 5 ∷ []; sound = sound_pair; before_the_end = omega arith; no_slot = refl }, refl);
+  first = (record { list = []; sound = sound_none; before_the_end = omega arith; no_slot = refl }, refl);
+  at_the_end = λ h. omega (arith, h.0.before_the_end);
+  overfull = λ h. omega (arith, h.0.no_slot);
+  listed = λ h. cc;
+}

@@ -1,0 +1,30 @@
+-- Which of the small rows are certified.
+use Rattle.std.specs.Prelude.{[]}
+use Rattle.sgp4_model.specs.Records.{spans, unresolved, full}
+use Rattle.sgp4_model.specs.Certified.{IsCertified}
+use Rattle.rows_model.specs.SmallTrack.{small_track, right_list, gapped_list, split_list}
+
+-- the row of the right list: its count is that of its list, which is sound up to the end
+pub record SpanRows : Type 0 where
+  pub right : IsCertified small_track 2 10 0 (spans 3) right_list
+  pub miscounted : ¬ (IsCertified small_track 2 10 0 (spans 2) right_list)
+  pub gapped : ¬ (IsCertified small_track 2 10 0 (spans 3) gapped_list)
+  pub split : ¬ (IsCertified small_track 2 10 0 (spans 4) split_list)
+  pub empty : ¬ (IsCertified small_track 2 10 0 (spans 0) [])
+  pub coarse : ¬ (IsCertified small_track 1 10 0 (spans 3) right_list)
+
+-- the track grazes for two ticks, one more than a resolution of one
+pub record UnresolvedRows : Type 0 where
+  pub right : IsCertified small_track 1 10 0 (unresolved 5 7) []
+  pub resolved : ¬ (IsCertified small_track 2 10 0 (unresolved 5 7) [])
+  pub certain : ¬ (IsCertified small_track 1 10 0 (unresolved 0 2) [])
+  pub beyond : ¬ (IsCertified small_track 1 10 0 (unresolved 6 8) [])
+  pub listed : ¬ (IsCertified small_track 1 10 0 (unresolved 5 7) right_list)
+
+-- two spans lead to 5, and with eight before them they fill ten slots
+pub record FullRows : Type 0 where
+  pub right : IsCertified small_track 2 10 8 (full 5) []
+  pub first : IsCertified small_track 2 10 10 (full 0) []
+  pub at_the_end : ¬ (IsCertified small_track 2 10 7 (full 7) [])
+  pub overfull : ¬ (IsCertified small_track 2 10 11 (full 0) [])
+  pub listed : ¬ (IsCertified small_track 2 10 8 (full 5) right_list)
