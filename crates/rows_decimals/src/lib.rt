@@ -1,0 +1,7 @@
+//! Tests of decimals.
+#![tactic(auto)]
+
+#[cfg(test)]
+mod order;
+#[cfg(test)]
+mod reading;
