@@ -1,1 +1,3 @@
+pub mod CubeLemmas
+pub mod RootLemmas
 pub mod TurnLemmas

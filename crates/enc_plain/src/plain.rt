@@ -75,6 +75,18 @@ impl Enc for Plain {
         (Plain { iv: sines }, Plain { iv: cosines })
     }
 
+    fn sqrt(self) -> Plain {
+        Plain {
+            iv: root_enc::sqrt(self.iv),
+        }
+    }
+
+    fn cbrt2(self) -> Plain {
+        Plain {
+            iv: root_enc::cbrt2(self.iv),
+        }
+    }
+
     fn bounds(self) -> Iv {
         self.iv
     }

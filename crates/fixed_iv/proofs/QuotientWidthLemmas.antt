@@ -20,7 +20,7 @@ use Rattle.fixed_iv.proofs.QuotientLemmas.{cancel, is_quotient, negative_units_n
 use Rattle.fixed_iv.proofs.SumLemmas.{result_at}
 use Rattle.fixed_iv.proofs.WidthLemmas.{IsSized, natural, natural_add, natural_mul, sized, sized_difference, sized_product, tight_bounded, tight_width}
 
-natural_sign : (n : ℕ) → NonNeg (natural n)
+pub natural_sign : (n : ℕ) → NonNeg (natural n)
 natural_sign n = by_zero (gap (of_int_le {a = pos 0} {b = pos n} (omega (arith, ints))))
   where
     by_zero : NonNeg (natural n -ℚ of_int (pos 0)) → NonNeg (natural n)

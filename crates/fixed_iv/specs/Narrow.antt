@@ -1,8 +1,9 @@
 -- The rule of each operation on the spread of its result. A given interval is an argument with its width as spread.
-use Rattle.std.specs.Prelude.{◌≡◌, ℕ, ◌+◌, ◌*◌, ◌^◌, ◌<◌, ◌≤◌, max, ◌⊎◌, pos, ◌+ℤ◌, ◌-ℤ◌, ◌≤ℤ◌, unsigned_abs}
+use Rattle.std.specs.Prelude.{◌≡◌, ℕ, ◌+◌, ◌*◌, ◌^◌, ◌<◌, ◌≤◌, max, ◌⊎◌, pos, ◌+ℤ◌, ◌-ℤ◌, ◌*ℤ◌, ◌≤ℤ◌, unsigned_abs}
 use Rattle.std.specs.Int.{int_min, int_max}
 use Rattle.exact.specs.Rational.{ℚ, ◌+ℚ◌, ◌-ℚ◌, ◌*ℚ◌, ◌/ℚ◌}
 use Rattle.sgp4_model.specs.Angle.{IsPi, IsSinCos}
+use Rattle.sgp4_model.specs.Root.{IsCbrt2, IsSqrt}
 use Rattle.fixed_iv.specs.Common.{IsGreaterOf}
 use Rattle.fixed_iv.specs.Extent.{Extent, IsMeasured, IsNarrow, size, width_of}
 use Rattle.fixed_iv.specs.Holds.{Holds, IsBounded}
@@ -82,3 +83,32 @@ pub record IsTurnOf (a : Iv) (result : ℚ) : Type 0 where
 -- at most the argument's spread and 16 units
 abbrev pub IsNarrowTurn : Extent → Extent → Type 0
 IsNarrowTurn a r = IsNarrow (IsMeasured a) (IsTurnOf a.ends) (λ n. n ≤ a.spread + 16) r
+
+-- a square root of a number of a
+pub record IsSqrtOf (a : Iv) (result : ℚ) : Type 0 where
+  pub number : ℚ
+  pub of_number : Holds a number
+  pub is : IsSqrt number result
+
+-- a cube root of the square of a number of a
+pub record IsCbrt2Of (a : Iv) (result : ℚ) : Type 0 where
+  pub number : ℚ
+  pub of_number : Holds a number
+  pub is : IsCbrt2 number result
+
+-- the lower end is at most two units below the square root of the argument's lower end
+pub record IsNearRootBelow (a r : Iv) : Type 0 where
+  pub sign : pos 0 ≤ℤ r.lo
+  pub square : (a.lo *ℤ pos (2 ^ 48)) ≤ℤ ((r.lo +ℤ pos 2) *ℤ (r.lo +ℤ pos 2))
+
+-- Where the bounds are at least 1/64, at most four times the argument's spread and six units. Where they are at least
+-- 1/4096, at most that spread divided by twice the lower end of the result, and six units; that end is near the root.
+pub record IsNarrowRoot (a r : Extent) : Type 0 where
+  pub from_64th : IsNarrow (IsMeasured a × (pos (2 ^ 42) ≤ℤ a.ends.lo)) (IsSqrtOf a.ends) (λ n. n ≤ 4 * a.spread + 6) r
+  pub from_4096th : IsNarrow (IsMeasured a × (pos (2 ^ 36) ≤ℤ a.ends.lo)) (IsSqrtOf a.ends)
+      (λ n. (low : ℕ) → r.ends.lo ≡ pos low → n * (2 * low) ≤ a.spread * 2 ^ 48 + 6 * (2 * low)) r
+  pub low_end : IsMeasured a → pos (2 ^ 36) ≤ℤ a.ends.lo → IsNearRootBelow a.ends r.ends
+
+-- where the bounds are at least 1/64, at most three times the argument's spread and six units
+abbrev pub IsNarrowCbrt2 : Extent → Extent → Type 0
+IsNarrowCbrt2 a r = IsNarrow (IsMeasured a × (pos (2 ^ 42) ≤ℤ a.ends.lo)) (IsCbrt2Of a.ends) (λ n. n ≤ 3 * a.spread + 6) r

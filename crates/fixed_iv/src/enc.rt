@@ -2,10 +2,11 @@
 ghost use Rattle.std.specs.Prelude.{◌≡◌, Bool, T};
 ghost use Rattle.exact.specs.Rational.{ℚ, ◌+ℚ◌, ◌-ℚ◌, ◌*ℚ◌, ◌/ℚ◌, neg_ℚ, zero_ℚ};
 ghost use Rattle.sgp4_model.specs.Angle.{IsPi, IsSinCos};
+ghost use Rattle.sgp4_model.specs.Root.{IsCbrt2, IsSqrt};
 ghost use Rattle.fixed_iv.specs.Common.{IsGreater};
 ghost use Rattle.fixed_iv.specs.Extent.{Extent, IsMeasured};
 ghost use Rattle.fixed_iv.specs.Holds.{Holds, IsBounded};
-ghost use Rattle.fixed_iv.specs.Narrow.{IsNarrowConstant, IsNarrowDifference, IsNarrowGreater, IsNarrowLine, IsNarrowNegative, IsNarrowPi, IsNarrowProduct, IsNarrowQuotient, IsNarrowSum, IsNarrowTurn};
+ghost use Rattle.fixed_iv.specs.Narrow.{IsNarrowCbrt2, IsNarrowConstant, IsNarrowDifference, IsNarrowGreater, IsNarrowLine, IsNarrowNegative, IsNarrowPi, IsNarrowProduct, IsNarrowQuotient, IsNarrowRoot, IsNarrowSum, IsNarrowTurn};
 ghost use Rattle.fixed_iv.specs.Place.{Place, on_line};
 
 use crate::Iv;
@@ -72,6 +73,16 @@ pub trait Enc: Copy {
     fn sincos(self) -> (Self, Self)
         ensures covers { (h : Place) (p x s c : ℚ) → IsPi p → IsSinCos p x s c → covers self h x → covers result.0 h s × covers result.1 h c }
         ensures narrow { T tells → IsNarrowTurn (extent self) (extent result.0) × IsNarrowTurn (extent self) (extent result.1) };
+
+    /// The square root. A negative number has none.
+    fn sqrt(self) -> Self
+        ensures covers { (h : Place) (x r : ℚ) → IsSqrt x r → covers self h x → covers result h r }
+        ensures narrow { T tells → IsNarrowRoot (extent self) (extent result) };
+
+    /// The cube root of the square. A number that is 0 or less has none.
+    fn cbrt2(self) -> Self
+        ensures covers { (h : Place) (x r : ℚ) → IsCbrt2 x r → covers self h x → covers result h r }
+        ensures narrow { T tells → IsNarrowCbrt2 (extent self) (extent result) };
 
     /// An interval that holds each covered number, at every place.
     fn bounds(self) -> Iv
