@@ -4,3 +4,4 @@ pub mod YearLemmas
 pub mod StampLemmas
 pub mod TextLemmas
 pub mod DifferLemmas
+mod KnownValues

@@ -5,6 +5,7 @@ use Rattle.jiff_core.specs.Calendar.{IsCivilDate, days_in_year, day_count, days_
 use Rattle.jiff_core.proofs.SignedLemmas.{signed_arith}
 use Rattle.jiff_core.proofs.MarchLemmas.{day_count-early}
 use Rattle.jiff_core.proofs.CalendarLemmas.{days_from_civil-day_count, day_count-later_year, days_in_year_bounds, day_count-day_of_year, day_of_year_bound}
+use Rattle.civil_time.specs.YearSpan.{InstantsAreOfTheYears}
 use Rattle.civil_time.specs.Scale.{IsInstantDay, start_of_day, IsInstantYear, IsInstant, start_of_year, day_nanos}
 
 pub day_count-first : day_count (pos 1957) 1 1 ≡ 4367205
@@ -50,3 +51,9 @@ place_day y n h low high =
 -- so many nanoseconds after such a day began
 pub day_instants : (day : ℤ) (n : ℕ) → IsInstantDay day → n < day_nanos → IsInstant (start_of_day day +ℤ pos n)
 day_instants day n h lt = omega (arith, signed_arith)
+
+pub instants_are_of_the_years : InstantsAreOfTheYears
+instants_are_of_the_years =
+    let first = days_from_civil-day_count (pos 1957) 1 1 in
+    let end = days_from_civil-day_count (pos 2057) 1 1 in
+    (omega (arith, signed_arith, day_count-first), omega (arith, signed_arith, day_count-end))

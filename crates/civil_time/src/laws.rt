@@ -1,6 +1,13 @@
 //! Laws of dates.
 ghost use Rattle.civil_time.specs.CivilDate.{DatesAreFoundAgain, DatesAreOfTheCalendar};
 ghost use Rattle.civil_time.specs.InstantText.{TextsOfInstantsDiffer};
+ghost use Rattle.civil_time.specs.YearSpan.{InstantsAreOfTheYears};
+
+/// The first instant begins the year 1957, and the last is followed by the beginning of the year 2057.
+#[tactic(auto, using(crate::proofs::YearLemmas::instants_are_of_the_years))]
+pub fn instants_are_of_the_years()
+    ensures { InstantsAreOfTheYears }
+{}
 
 /// Each day of the years 1957 to 2056 has its date in the Gregorian calendar.
 pub fn dates_are_of_the_calendar()
