@@ -5,5 +5,6 @@ pub mod AsDecimalLemmas
 pub mod CutLemmas
 pub mod FitLemmas
 mod KnownValues
+pub mod PrintLemmas
 pub mod ReadLemmas
 pub mod SignificantLemmas

@@ -5,5 +5,6 @@ pub mod Normal
 pub mod NumberText
 pub mod Order
 pub mod OrderLaws
+pub mod PrintedDecimal
 pub mod Significant
 pub mod Units

@@ -4,4 +4,6 @@
 #[cfg(test)]
 mod order;
 #[cfg(test)]
+mod printing;
+#[cfg(test)]
 mod reading;
