@@ -1,3 +1,3 @@
-mod CubeLemmas
-mod SquareLemmas
-mod WholeLemmas
+pub mod CubeLemmas
+pub mod SquareLemmas
+pub mod WholeLemmas
