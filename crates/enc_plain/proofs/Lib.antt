@@ -1,3 +1,4 @@
 pub mod CubeLemmas
+pub mod PlainHeld
 pub mod RootLemmas
 pub mod TurnLemmas
