@@ -22,7 +22,7 @@ unit_apart x y unit h =
     omega (arith, signed_arith, mul-le-mul_right unit more)
 
 -- numbers of whole units that differ by less than a unit are equal
-whole_same : (a b : ℤ) (unit : ℕ) (x y : ℤ) → a ≡ x *ℤ pos unit → b ≡ y *ℤ pos unit → a <ℤ (b +ℤ pos unit) → b <ℤ (a +ℤ pos unit) → a ≡ b
+pub whole_same : (a b : ℤ) (unit : ℕ) (x y : ℤ) → a ≡ x *ℤ pos unit → b ≡ y *ℤ pos unit → a <ℤ (b +ℤ pos unit) → b <ℤ (a +ℤ pos unit) → a ≡ b
 whole_same a b unit x y e f low high =
     by_lt_z x y (λ lt. absurd (omega (arith, signed_arith, unit_apart x y unit lt)))
     (λ ge. by_lt_z y x (λ gt. absurd (omega (arith, signed_arith, unit_apart y x unit gt)))

@@ -4,4 +4,5 @@ pub mod YearLemmas
 pub mod StampLemmas
 pub mod TextLemmas
 pub mod DifferLemmas
+pub mod ReadBackLemmas
 mod KnownValues

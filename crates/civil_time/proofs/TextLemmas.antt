@@ -17,7 +17,7 @@ unfolding fixed_digits
 fixed_digits-zero n = refl
 
 -- one more digit in front
-fixed_digits-suc : (count n : ℕ) → fixed_digits (suc count) n ≡ (48 + n / 10 ^ count % 10) ∷ fixed_digits count n
+pub fixed_digits-suc : (count n : ℕ) → fixed_digits (suc count) n ≡ (48 + n / 10 ^ count % 10) ∷ fixed_digits count n
 unfolding fixed_digits
 fixed_digits-suc count n = refl
 
@@ -27,7 +27,7 @@ length-fixed_digits zero n = refl
 length-fixed_digits (suc count) n = ap suc (length-fixed_digits count n)
 
 -- the first digit and the rest
-high_low : (count n : ℕ) → n % 10 ^ suc count ≡ (n / 10 ^ count % 10) * 10 ^ count + n % 10 ^ count
+pub high_low : (count n : ℕ) → n % 10 ^ suc count ≡ (n / 10 ^ count % 10) * 10 ^ count + n % 10 ^ count
 high_low count n = rw (tenth (suc count) count refl) (mod-mul n (omega arith) (ten_pow-pos count))
 
 -- of a quotient and a remainder

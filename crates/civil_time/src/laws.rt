@@ -1,6 +1,7 @@
 //! Laws of dates.
 ghost use Rattle.civil_time.specs.CivilDate.{DatesAreFoundAgain, DatesAreOfTheCalendar};
 ghost use Rattle.civil_time.specs.InstantText.{TextsOfInstantsDiffer};
+ghost use Rattle.civil_time.specs.ReadBack.{TextsAreReadBack};
 ghost use Rattle.civil_time.specs.YearSpan.{InstantsAreOfTheYears};
 
 /// The first instant begins the year 1957, and the last is followed by the beginning of the year 2057.
@@ -24,4 +25,10 @@ pub fn dates_are_found_again()
 #[tactic(auto, using(crate::proofs::DifferLemmas::texts_differ))]
 pub fn texts_of_instants_differ()
     ensures { TextsOfInstantsDiffer }
+{}
+
+/// The text of an instant that its decimals write in full is read as the instant.
+#[tactic(auto, using(crate::proofs::ReadBackLemmas::texts_are_read_back))]
+pub fn texts_are_read_back()
+    ensures { TextsAreReadBack }
 {}
