@@ -1,8 +1,7 @@
 -- The places that the code has found.
-use Rattle.std.specs.Prelude.{Option, Result, Ok, Err}
+use Rattle.std.specs.Prelude.{Result, Ok, Err}
 use Rattle.pass_words.specs.declared.fault.UsageFault.{UsageFault}
 use Rattle.pass_words.specs.declared.found.Found.{Found}
-use Rattle.pass_words.specs.declared.key.Opt.{Opt}
 use Rattle.pass_words.specs.declared.key.Opt.TheVariants.{Lat, Lon, Start, End, Res}
 use Rattle.pass_words.specs.Places.{Places}
 

@@ -1,7 +1,17 @@
+pub mod Day
+pub mod Degrees
+pub mod Faults
 pub mod Found
 pub mod Keys
+pub mod Moment
 pub mod Options
 pub mod Placed
 pub mod Places
+pub mod Ranges
+pub mod Resolution
 pub mod Roles
+pub mod Span
 pub mod Steps
+pub mod Values
+pub mod Windows
+pub mod Words

@@ -1,5 +1,6 @@
 -- What each word after the command is: part of an option, or not.
-use Rattle.std.specs.Prelude.{ℕ, ◌+◌, ◌==◌, nat_lt, Bool, true, false, ◌&&◌, not, List, [], ◌∷◌, length, take, Option, Some, None, is_some, position, option_and_then, if◌then◌else◌}
+use Rattle.std.specs.Prelude.{ℕ, ◌+◌, ◌==◌, nat_lt, Bool, false, ◌&&◌, not, List, [], ◌∷◌, length, take, Option, Some, None, is_some, position, unwrap_or, if◌then◌else◌}
+use Rattle.std.specs.Option.{option_or}
 use Rattle.std.specs.Str.{is_utf8, byte}
 use Rattle.pass_words.specs.declared.key.Opt.{Opt}
 use Rattle.pass_words.specs.declared.part.Part.{Part}
@@ -38,20 +39,14 @@ abbrev pub pair : List Opt → ℕ → List ℕ → List ℕ → Option Role
 pair keys at word next =
     if may_be_value next then opens (key_of keys word) (record { word = at + 1; from = 0 }) else None
 
--- the first of two that there is, and else the third
-abbrev pub first_of_two : Option Role → Option Role → Role → Role
-first_of_two (Some role) second third = role
-first_of_two None (Some role) third = role
-first_of_two None None third = third
-
 -- a word that begins no option: the value of a key that the word before names alone, or no part of an option
 abbrev pub continued : List Opt → List ℕ → List ℕ → Role
 continued keys before word = if may_be_value word && is_some (key_of keys before) then Value else Stray
 
--- the role of a word that is UTF-8
+-- the role of a word that is UTF-8: it begins an option, alone or with the next word; or else it goes on with one or not
 abbrev pub text_role : List Opt → ℕ → List ℕ → List ℕ → List ℕ → Role
 text_role keys at before word next =
-    first_of_two (whole keys at word) (pair keys at word next) (continued keys before word)
+    unwrap_or (option_or (whole keys at word) (pair keys at word next)) (continued keys before word)
 
 -- the role of the word with this number, between the word before and the next, which is empty where there is none
 abbrev pub role : List Opt → ℕ → List ℕ → List ℕ → List ℕ → Role

@@ -7,7 +7,7 @@ use crate::key::Opt;
 use crate::part::Part;
 
 /// For each key where its value stands, if it was found.
-#[derive(Clone, Copy, Debug)]
+#[derive(Clone, Copy)]
 pub(crate) struct Found {
     lat: Option<Part>,
     lon: Option<Part>,

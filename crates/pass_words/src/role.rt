@@ -8,7 +8,7 @@ use crate::part::Part;
 use std::str;
 
 /// What a word is to the options.
-#[derive(Clone, Copy, Debug)]
+#[derive(Clone, Copy)]
 pub(crate) enum Role {
     /// It begins an option of this key, whose value stands there.
     Opens { key: Opt, part: Part },

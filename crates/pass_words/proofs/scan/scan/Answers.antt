@@ -1,7 +1,7 @@
-use Rattle.std.proofs.Common.{◌≡◌, ◌+◌, ◌-◌, ◌<◌, ◌≤◌, ◌∙◌, [], get_or, length, drop, arith, sym, ap}
+use Rattle.std.proofs.Common.{◌+◌, ◌-◌, ◌∙◌, [], get_or, sym}
 use Rattle.std.proofs.lemmas.List.{at_drop_all}
 use Rattle.std.proofs.lemmas.Result.{err_from_is_err_and}
-use Rattle.pass_words.specs.Found.{places_in, found_places}
+use Rattle.pass_words.specs.Found.{places_in}
 use Rattle.pass_words.specs.Options.{options}
 use Rattle.pass_words.specs.Roles.{roles}
 use Rattle.pass_words.proofs.ScanLemmas.{options-drop, options_after-drop}

@@ -1,4 +1,3 @@
-use Rattle.std.proofs.Common.{◌≡◌}
 use Rattle.pass_words.proofs.scan.taken.Goals as goal
 
 pub returns-else-is_some : goal.returns-else-is_some

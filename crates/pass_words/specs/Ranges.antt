@@ -1,0 +1,15 @@
+-- The ranges of the values of a request.
+use Rattle.std.specs.Prelude.{pos, neg_ℤ}
+use Rattle.decimals.specs.Decimal.{DecimalRecord, value}
+use Rattle.elements.specs.Elements.{IsFromTo}
+use Rattle.pass_words.specs.declared.request.Request.{Request}
+use Rattle.pass_words.specs.declared.request.Request.TheVariants.{Day}
+
+-- a latitude is from -90 to 90 degrees, and a longitude from -180 to 360
+pub record IsPlace (lat lon : DecimalRecord) : Type 0 where
+  pub latitude : IsFromTo (neg_ℤ (pos 90)) (pos 90) (value lat)
+  pub longitude : IsFromTo (neg_ℤ (pos 180)) (pos 360) (value lon)
+
+-- the values of a request are in their ranges
+abbrev pub IsInRange : Request → Type 0
+IsInRange (Day lat lon window) = IsPlace lat lon
