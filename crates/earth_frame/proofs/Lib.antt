@@ -1,0 +1,7 @@
+mod AngleLemmas
+mod CenturyLemmas
+mod HalfTurnLemmas
+mod SlimLemmas
+mod SlowLemmas
+mod SpreadLemmas
+mod StartLemmas
