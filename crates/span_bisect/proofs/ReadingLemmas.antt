@@ -7,10 +7,12 @@ use Rattle.sgp4_model.specs.Certified.{TrackRecord, IsTrueSpan, IsSoundUpTo, IsU
 use Rattle.sgp4_model.specs.CertifiedLaws.{EndsOtherThan}
 use Rattle.sgp4_model.proofs.TimeLemmas.{throughout_join}
 use Rattle.sgp4_model.proofs.CertifiedLemmas.{sound_lists_extend}
+use Rattle.span_bisect.specs.Answer.{IsOutOfRoom}
 use Rattle.span_bisect.specs.Part.{IsPart}
 use Rattle.sgp4_model.specs.declared.span.Mark.{Mark}
 use Rattle.sgp4_model.specs.declared.span.Mark.TheVariants.{Yes, No, Undecided}
 use Rattle.sgp4_model.specs.declared.span.Span.{Span}
+use Rattle.span_bisect.specs.declared.track.TrackAnswer.TheVariants.{Full}
 
 -- a part of each mark, of what a judge says
 pub part_yes : (track : TrackRecord) (from to : ℕ) → from < to → Throughout from to track.yes → IsPart track from (record { mark = Yes; from = from; to = to })
@@ -105,3 +107,17 @@ full track resolution slots list run h e inside = record {
   before_the_end = omega (arith, h.longer);
   no_slot = omega arith;
 }
+
+-- the list with the run is too long for the room
+pub out_of_room : (track : TrackRecord) (resolution room : ℕ) (list : List Span) (run : Span) → IsReadTo track resolution list run →
+    length list ≡ room → run.to ≤ track.ticks → (at : ℕ) → Full run.from ≡ Full at → IsOutOfRoom track resolution room at
+out_of_room track resolution room list run h e inside at same =
+    let begins : run.from ≡ at = cc in
+    record {
+      list = list;
+      last = run;
+      sound = finish track resolution list run h;
+      inside = inside;
+      begins = begins;
+      no_room = e;
+    }

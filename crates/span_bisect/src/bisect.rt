@@ -1,8 +1,8 @@
 //! The bisection.
 
-ghost use Rattle.std.specs.Prelude.{◌≡◌, ◌<◌, ◌≤◌, List, [], ◌∷◌, ◌++◌, length, true, false, Ok, IfOk};
+ghost use Rattle.std.specs.Prelude.{ℕ, ◌≡◌, ◌<◌, ◌≤◌, List, [], ◌∷◌, ◌++◌, length, true, false, Ok, IfOk};
 ghost use Rattle.arrayvec.specs.ArrayVec.{array_vec_len};
-ghost use Rattle.span_bisect.specs.Answer.{IsAnswer, track_of};
+ghost use Rattle.span_bisect.specs.Answer.{IsAnswer, IsOutOfRoom, track_of};
 ghost use Rattle.span_bisect.specs.Part.{IsPart};
 ghost use Rattle.span_bisect.specs.Stack.{IsStack};
 
@@ -24,6 +24,7 @@ pub fn cover<J: Judge>(
     requires resolution { (1 ≤ resolution) × (resolution ≤ 600000) }
     requires room { room ≤ 1048576 }
     ensures certified { IfOk result (λ c. IsAnswer (track_of J.Judge judge.now) resolution room c.answer) }
+    ensures full { IfOk result (λ c. (at : ℕ) → c.answer ≡ TrackAnswer.Full at → IsOutOfRoom (track_of J.Judge judge.now) resolution room at) }
 {
     let mut ends: ArrayVec<u64, 64> = ArrayVec::new();
     ends.push(judge.ticks());

@@ -4,7 +4,7 @@ use Rattle.sgp4_model.specs.declared.span.Mark.TheVariants.{Undecided}
 use Rattle.sgp4_model.specs.Certified.{IsSoundUpTo}
 use Rattle.span_bisect.proofs.MarkLemmas.{same_mark, other_mark}
 use Rattle.span_bisect.proofs.StackLemmas.{below, emptied}
-use Rattle.span_bisect.proofs.ReadingLemmas.{start, extend, turn, finish, unresolved, full}
+use Rattle.span_bisect.proofs.ReadingLemmas.{start, extend, turn, finish, unresolved, full, out_of_room}
 use Rattle.span_bisect.proofs.bisect.cover.Goals as goal
 use Rattle.span_bisect.proofs.bisect.cover.Goals.{then-branch-2, else-branch-2, else-eq-2-via-then-eq-2+else-run-resolution, else-eq-2-via-else-eq-2}
 
@@ -25,6 +25,7 @@ returns-then-run-resolution g c =
             (below _ _ _ c.next_part-part.ensures.stack),
         refl,
       );
+      full = λ at e. absurd (cc);
     }
 
 pub loop-ends-smaller-else-eq-2 : goal.loop-ends-smaller-else-eq-2
@@ -60,7 +61,12 @@ loop-ends-preserved g c =
 pub returns-else-branch : goal.returns-else-branch
 returns-else-branch g c =
     let is_full : c.end_span.result ≡ Ok false = cc in
-    record { certified = (full _ _ _ _ _ c.loop-ends.invariant.read (c.end_span.ensures.full is_full).1 (below _ _ _ c.loop-ends.invariant.stack), refl) }
+    let no_room = (c.end_span.ensures.full is_full).1 in
+    let inside = below _ _ _ c.loop-ends.invariant.stack in
+    record {
+      certified = (full _ _ _ _ _ c.loop-ends.invariant.read no_room inside, refl);
+      full = out_of_room _ _ _ _ _ c.loop-ends.invariant.read no_room inside;
+    }
 
 pub returns : goal.returns
 returns g c = elim c.if-branch-2.branch [
@@ -68,8 +74,13 @@ returns g c = elim c.if-branch-2.branch [
       let ended : c.end_span-2.result ≡ Ok true = rw w.if-branch-2.true at c.in_ok-end_span-2.was in
       let none_left : length c.loop-ends.ends.items ≡ 0 = eqb-true _ _ (sym c.is_empty.ensures ∙ c.loop-ends-test.false) in
       let whole = subst (IsSoundUpTo _ _ _) (emptied _ _ _ c.loop-ends.invariant.stack none_left) (finish _ _ _ _ c.loop-ends.invariant.read) in
-      rw w.answer-is (record { certified = (rw (w.of.ensures, c.end_span-2.ensures.ended ended) whole, refl) })
+      rw w.answer-is (record { certified = (rw (w.of.ensures, c.end_span-2.ensures.ended ended) whole, refl); full = λ at e. absurd (cc) })
   | else-branch-2 w ↦
       let is_full : c.end_span-2.result ≡ Ok false = rw w.if-branch-2.false at c.in_ok-end_span-2.was in
-      rw w.answer-is (record { certified = (full _ _ _ _ _ c.loop-ends.invariant.read (c.end_span-2.ensures.full is_full).1 (below _ _ _ c.loop-ends.invariant.stack), refl) })
+      let no_room = (c.end_span-2.ensures.full is_full).1 in
+      let inside = below _ _ _ c.loop-ends.invariant.stack in
+      rw w.answer-is (record {
+        certified = (full _ _ _ _ _ c.loop-ends.invariant.read no_room inside, refl);
+        full = out_of_room _ _ _ _ _ c.loop-ends.invariant.read no_room inside;
+      })
 ]
