@@ -1,0 +1,7 @@
+use Rattle.station_view.proofs.DegreeLemmas.{pair_enclosed}
+use Rattle.station_view.proofs.spot.pair_of.Goals as goal
+
+pub returns : goal.returns
+returns c =
+    pair_enclosed c.requires c.half_turns.ensures c.pi.ensures.holds c.pi.ensures.width c.pi.ensures.bounded c.mul.ensures
+    c.sincos.ensures.holds c.sincos.ensures.sines_wider c.sincos.ensures.cosines_wider c.sincos.ensures.sines_bounded c.sincos.ensures.cosines_bounded
