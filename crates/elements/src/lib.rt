@@ -5,8 +5,8 @@ mod elements;
 mod text;
 mod window;
 
-pub use civil_time::Instant;
-pub use decimals::Decimal;
+pub use civil_time::{Instant, TimeFault, read_utc};
+pub use decimals::{Decimal, NumFault, read_decimal};
 pub use elements::Elements;
 pub use std::alloc::AllocError as OutOfMemory;
 pub use text::Text;
