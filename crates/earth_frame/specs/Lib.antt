@@ -1,5 +1,6 @@
 pub mod Covered
 pub mod HalfTurns
+pub mod HeldVector
 pub mod Over
 pub mod Spread
 pub mod Slim
