@@ -5,6 +5,9 @@ pub mod AsDecimalLemmas
 pub mod CutLemmas
 pub mod FitLemmas
 mod KnownValues
+pub mod ReadLaw
+pub mod WrittenLemmas
+pub mod PowerLemmas
 pub mod PrintLemmas
 pub mod ReadLemmas
 pub mod SignificantLemmas

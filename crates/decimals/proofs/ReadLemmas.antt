@@ -8,11 +8,11 @@ use Rattle.decimals.specs.NumberText.{NumberFields, number_written, is_point, is
 use Rattle.decimals.specs.DecimalText.{as_decimal, decimal_of_fields, decimal_value}
 use Rattle.decimals.proofs.CutLemmas.{before_place, before_none}
 
-value_by : (fields : NumberFields) → is_number fields ≡ true → decimal_of_fields fields ≡ as_decimal fields.minus (number_written (fields.whole ++ fields.fraction)) (exponent_of fields.exponent -ℤ pos (length fields.fraction))
+pub value_by : (fields : NumberFields) → is_number fields ≡ true → decimal_of_fields fields ≡ as_decimal fields.minus (number_written (fields.whole ++ fields.fraction)) (exponent_of fields.exponent -ℤ pos (length fields.fraction))
 unfolding decimal_of_fields
 value_by fields e = rw (decimal_of_fields, e) refl
 
-shape_by : (fields : NumberFields) → is_number fields ≡ false → decimal_of_fields fields ≡ Err Shape
+pub shape_by : (fields : NumberFields) → is_number fields ≡ false → decimal_of_fields fields ≡ Err Shape
 unfolding decimal_of_fields
 shape_by fields e = rw (decimal_of_fields, e) refl
 

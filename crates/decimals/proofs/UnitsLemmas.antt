@@ -129,7 +129,7 @@ unfolding ratio
 ratio_times n p j =
     glue _ _ (rw (suc-pred-eq_of_pos (ten_pow_pos p), suc-pred-eq_of_pos (ten_pow_pos (p + j)), pow-add 10 p j) (regroup n (pos (10 ^ j)) (pos (10 ^ p)) ∙ ap (λ t. n *ℤ pos t) (omega arith)))
 
-signed_times : (minus : Bool) (n k : ℕ) → signed minus (n * k) ≡ signed minus n *ℤ pos k
+pub signed_times : (minus : Bool) (n k : ℕ) → signed minus (n * k) ≡ signed minus n *ℤ pos k
 signed_times true zero k = let e : 0 * k ≡ 0 = omega arith in rw e refl
 signed_times true (suc n) k = refl
 signed_times false n k = refl

@@ -8,3 +8,4 @@ pub mod OrderLaws
 pub mod PrintedDecimal
 pub mod Significant
 pub mod Units
+pub mod WrittenNumber
