@@ -11,11 +11,10 @@ use Rattle.sgp4_model.specs.Time.{instant_of_nanos}
 use Rattle.fixed_iv.specs.Ends.{in_units}
 use Rattle.fixed_iv.specs.Extent.{Extent}
 use Rattle.earth_frame.specs.Spread.{IsSpreadWithin}
-use Rattle.earth_frame.proofs.SpreadLemmas.{IsSlimAt}
 use Rattle.fixed_iv.specs.Holds.{Holds, IsBounded}
 use Rattle.fixed_iv.specs.declared.iv.Iv.{Iv}
 use Rattle.earth_frame.specs.Over.{instant_after}
-use Rattle.earth_frame.specs.Slim.{IsSlim}
+use Rattle.earth_frame.specs.Slim.{IsSlim, IsSlimAt}
 use Rattle.earth_frame.specs.SlowTerms.{slow_half_turns}
 use Rattle.fixed_iv.proofs.OuterLemmas.{width_is}
 use Rattle.earth_frame.proofs.SlimLemmas.{from_ends}
@@ -75,3 +74,7 @@ rate_slim w v e f = record {
 -- the spread of the angle, and of its sine or cosine
 pub angle_within : {w s : ℕ} {e : Extent} → IsSlimAt w s 29070 71692 e → IsSpreadWithin (80 * w + 48) e
 angle_within {w} {s} {e} h = record { measured = h.measured; spread = omega (arith, h.spread) }
+
+-- whole turns come off half turns and off radians
+pub turned_is : (p a r x j : ℚ) → p *ℚ (a -ℚ j *ℚ ratio (pos 2) 1) +ℚ p *ℚ r *ℚ x ≡ p *ℚ (a +ℚ r *ℚ x) -ℚ j *ℚ (ratio (pos 2) 1 *ℚ p)
+turned_is p a r x j = ring (p ∷ a ∷ r ∷ x ∷ j ∷ []) (search reads depth 90) tt

@@ -5,3 +5,4 @@ mod SlimLemmas
 mod SlowLemmas
 mod SpreadLemmas
 mod StartLemmas
+mod SunLemmas

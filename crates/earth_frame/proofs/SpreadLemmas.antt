@@ -17,15 +17,9 @@ use Rattle.fixed_iv.specs.Results.{IsResultOf}
 use Rattle.fixed_iv.specs.declared.iv.Iv.{Iv}
 use Rattle.fixed_iv.proofs.OuterLemmas.{width_is}
 use Rattle.fixed_iv.proofs.WidthLemmas.{natural, sized}
-use Rattle.earth_frame.specs.Slim.{IsSlim}
+use Rattle.earth_frame.specs.Slim.{IsSlim, IsSlimAt}
 use Rattle.earth_frame.specs.Spread.{IsSpreadWithin, IsUnitWide, IsWithinOne}
 use Rattle.earth_frame.proofs.SlimLemmas.{IsLittle, from_ends, little_le, little_product, little_small, little_sum, slim_small, slim_unit, sum_width, product_width}
-
--- measured bounds, at most so many units in size, and a spread of at most k / 1000 and d / 1000 times w units
-pub record IsSlimAt (w most k d : ℕ) (e : Extent) : Type 0 where
-  pub measured : IsMeasured e
-  pub size : size e.ends ≤ most
-  pub spread : e.spread * 1000 ≤ k + d * w
 
 -- bounds that hold a number of at most so many units, and are no wider than n
 size_around : {s : ℕ} (n : ℕ) {v : Iv} {z : ℚ} → IsBounded v → Holds v z → IsLittle s z → width_of v ≤ n → size v ≤ s + n

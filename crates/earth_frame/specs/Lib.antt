@@ -5,3 +5,4 @@ pub mod Over
 pub mod Spread
 pub mod Slim
 pub mod SlowTerms
+pub mod SteadyTerms

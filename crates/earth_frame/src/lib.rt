@@ -4,6 +4,9 @@
 mod reduced;
 mod rotation;
 mod sidereal_time;
+mod steady;
+mod sun;
 
 pub use rotation::{Turn, to_earth};
 pub use sidereal_time::sidereal;
+pub use sun::sun_direction;
