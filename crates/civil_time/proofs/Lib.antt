@@ -1,4 +1,5 @@
 pub mod ColumnLemmas
+pub mod DigitLemmas
 pub mod DateLemmas
 pub mod YearLemmas
 pub mod StampLemmas

@@ -1,15 +1,10 @@
 -- What is written of an instant is read as that instant.
-use Rattle.std.specs.Int.{IsInRange, is_in_range}
-use Rattle.std.specs.Char.{is_ascii_digit, digit_value}
-use Rattle.std.specs.List.{list_all}
-use Rattle.std.specs.Str.Parse.{digits_value, digits_value_after}
-use Rattle.std.proofs.Common.{length, drop, slice_index, ◌≡◌, ℕ, zero, suc, ◌+◌, ◌-◌, ◌*◌, ◌/◌, ◌%◌, ◌^◌, ◌<◌, ◌≤◌, true, false, ◌==◌, nat_lt, refl, sym, ap, ◌∙◌, arith, List, [], ◌∷◌, ◌++◌, codes, Ok, ℤ, pos, ◌+ℤ◌, ◌-ℤ◌, ◌*ℤ◌}
+use Rattle.std.specs.Int.{is_in_range}
+use Rattle.std.proofs.Common.{length, drop, slice_index, ◌≡◌, ℕ, suc, ◌+◌, ◌-◌, ◌*◌, ◌/◌, ◌%◌, ◌^◌, ◌<◌, ◌≤◌, true, false, ◌==◌, nat_lt, refl, sym, ap, ◌∙◌, arith, List, [], ◌∷◌, ◌++◌, codes, Ok, ℤ, pos, ◌+ℤ◌, ◌-ℤ◌, ◌*ℤ◌}
 use Rattle.std.proofs.Common.{eq-eqb, ne_eqb}
-use Rattle.jiff_fmt.proofs.ReaderLemmas.{tenth}
 use Rattle.std.proofs.lemmas.Bool.Decides.{nat_tests}
 use Rattle.std.proofs.lemmas.List.{append_assoc, length-append}
-use Rattle.std.proofs.lemmas.Str.{digit_value_digit}
-use Rattle.std.proofs.Math.Nat.{mod-lt, mod-eq_of_lt, div-add-mod'}
+use Rattle.std.proofs.Math.Nat.{mod-lt, div-add-mod'}
 use Rattle.std.proofs.Math.Seq.{get_or-append_seam, take-append_seam}
 use Rattle.std.proofs.lemmas.Bool.{lt-ltb}
 use Rattle.jiff_core.specs.Calendar.{IsCivilDate, days_in_month, days_from_civil}
@@ -23,47 +18,11 @@ use Rattle.civil_time.proofs.StampLemmas.{instant_day}
 use Rattle.civil_time.proofs.DifferLemmas.{whole_same, instant_parts}
 use Rattle.civil_time.specs.Scale.{start_of_day, scale_zero, day_nanos, IsInstant}
 use Rattle.civil_time.specs.CivilDate.{CivilDate, date_of_day}
-use Rattle.civil_time.specs.Columns.{columns, are_digits, number_at}
+use Rattle.civil_time.specs.Columns.{columns}
 use Rattle.civil_time.specs.InstantText.{fixed_digits, date_text, clock_text, instant_text, day_of_instant, nanos_of_day, IsWholeIn}
 use Rattle.civil_time.specs.Utc.{without_z, utc_without_z, utc_value, is_form, is_date_form, is_clock_form, is_decimals_form, has_month, date_width, is_day, is_clock, day_at, seconds_at, decimals_at, moment_at}
-use Rattle.civil_time.proofs.TextLemmas.{high_low, length-fixed_digits}
-
--- a digit
-digit_in : (n : ℕ) → IsInRange 48 57 (48 + n % 10)
-digit_in n = (omega arith, omega arith)
-
-is_digit : (n : ℕ) → is_ascii_digit (48 + n % 10) ≡ true
-is_digit n = grind (arith, nat_tests, digit_in n)
-
-value_of_digit : (n : ℕ) → digit_value (48 + n % 10) ≡ n % 10
-value_of_digit n = omega (arith, digit_value_digit (48 + n % 10) (digit_in n))
-
--- digits are digits
-pub all_fixed : (count n : ℕ) → list_all is_ascii_digit (fixed_digits count n) ≡ true
-unfolding fixed_digits
-all_fixed zero n = refl
-all_fixed (suc count) n = rw (is_digit (n / 10 ^ count), all_fixed count n) refl
-
--- and write the number
-value_after_fixed : (count n front : ℕ) → digits_value_after 10 front (fixed_digits count n) ≡ front * 10 ^ count + n % 10 ^ count
-unfolding fixed_digits
-value_after_fixed zero n front = omega arith
-value_after_fixed (suc count) n front =
-    value_after_fixed count n (front * 10 + digit_value (48 + n / 10 ^ count % 10)) ∙ rw (value_of_digit (n / 10 ^ count), high_low count n, tenth (suc count) count refl) (omega arith)
-
-pub value_fixed : (count n : ℕ) → n < 10 ^ count → digits_value 10 (fixed_digits count n) ≡ n
-value_fixed count n h = value_after_fixed count n 0 ∙ rw (mod-eq_of_lt h) (omega arith)
-
--- columns that hold the digits of a number
-digits_there : (from count n : ℕ) (text : List ℕ) → columns from count text ≡ fixed_digits count n → are_digits from count text ≡ true
-unfolding are_digits
-digits_there from count n text e =
-    let same : (length (fixed_digits count n) == count) ≡ true = eq-eqb _ _ (length-fixed_digits count n) in
-    rw (e, same, all_fixed count n) refl
-
-number_there : (from count n : ℕ) (text : List ℕ) → n < 10 ^ count → columns from count text ≡ fixed_digits count n → number_at from count text ≡ n
-unfolding number_at
-number_there from count n text h e = rw e (value_fixed count n h)
+use Rattle.civil_time.proofs.TextLemmas.{length-fixed_digits}
+use Rattle.civil_time.proofs.DigitLemmas.{all_fixed, value_fixed, digits_there, number_there}
 
 -- a text without its `Z`
 abbrev body : (y m d hour minute second : ℕ) (decimals : List ℕ) → List ℕ

@@ -10,19 +10,23 @@ use Rattle.civil_time.specs.declared.fault.TimeFault.TheVariants as faults
 use Rattle.civil_time.specs.Scale.{first_year, last_year, start_of_day}
 use Rattle.civil_time.specs.Columns.{are_digits, number_at, has_mark}
 
--- the bytes `-`, `.`, `:`, `T` and `Z`
+-- the byte `-`
 abbrev pub dash : ℕ
 dash = 45
 
+-- the byte `.`
 abbrev pub point : ℕ
 point = 46
 
+-- the byte `:`
 abbrev pub colon : ℕ
 colon = 58
 
+-- the byte `T`
 abbrev pub letter_t : ℕ
 letter_t = 84
 
+-- the byte `Z`
 abbrev pub letter_z : ℕ
 letter_z = 90
 

@@ -1,4 +1,4 @@
-//! Laws of dates.
+//! Laws of the years, of dates, and of the texts of instants.
 ghost use Rattle.civil_time.specs.CivilDate.{DatesAreFoundAgain, DatesAreOfTheCalendar};
 ghost use Rattle.civil_time.specs.InstantText.{TextsOfInstantsDiffer};
 ghost use Rattle.civil_time.specs.ReadBack.{TextsAreReadBack};
