@@ -16,6 +16,6 @@ mod significant;
 
 pub use decimal::Decimal;
 pub use fault::NumFault;
-pub use laws::{equal_values_are_equal, texts_are_read_exactly};
+pub use laws::{equal_values_are_equal, printed_decimals_are_read_back, texts_are_read_exactly};
 pub use print::MOST_BYTES;
 pub use read::read_decimal;
