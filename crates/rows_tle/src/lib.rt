@@ -1,0 +1,9 @@
+//! Tests of the reader of two-line element sets.
+#![tactic(auto)]
+
+#[cfg(test)]
+mod faults;
+#[cfg(test)]
+mod lines;
+#[cfg(test)]
+mod values;

@@ -1,0 +1,10 @@
+use Rattle.std.proofs.Common.{◌≡◌, ◌≤◌, length, reverse}
+use Rattle.tle_read.specs.Columns.{is_space, skip_while}
+use Rattle.tle_read.proofs.columns.without_spaces_after.Given as goal
+
+abbrev pub invariant-loop-text : goal.invariant-loop-text
+invariant-loop-text l =
+    (skip_while is_space (reverse l.text) ≡ skip_while is_space (reverse l.fn.text)) × (length l.text ≤ length l.fn.text)
+
+abbrev pub decreases-loop-text : goal.decreases-loop-text
+decreases-loop-text l = length l.text
