@@ -1,0 +1,11 @@
+//! Tests of the words of the command line.
+#![tactic(auto)]
+
+#[cfg(test)]
+mod day_values;
+#[cfg(test)]
+mod options;
+#[cfg(test)]
+mod sizes;
+#[cfg(test)]
+mod words;

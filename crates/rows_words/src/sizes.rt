@@ -1,0 +1,65 @@
+use crate::words::{answer, day_words};
+use elements::Text;
+use pass_words::{Opt, UsageFault, WindowFault, WordFault};
+use std::alloc::{AllocError, Global};
+use std::test::Fail;
+
+const START: &[u8] = b"2000-06-21T00:00:00Z";
+
+const HOUR: &[u8] = b"2000-06-21T01:00:00Z";
+
+/// `day` and a hundred thousand more words.
+fn many_words(alloc: Global, word: &[u8]) -> Result<Vec<Text>, AllocError> {
+    let mut words = Vec::new(alloc);
+    words.push(Text::copy(alloc, b"day")?)?;
+    for _ in 0..100_000 {
+        words.push(Text::copy(alloc, word)?)?;
+    }
+    Ok(words)
+}
+
+#[test]
+fn a_hundred_thousand_words_have_one_fault(rt: HostRuntime) -> Result<(), Fail> {
+    let rows: [(&[u8], UsageFault); 4] = [
+        (b"", UsageFault::Word { at: 2 }),
+        (b"--lat", UsageFault::Word { at: 2 }),
+        (b"--lat=1", UsageFault::Twice { key: Opt::Lat }),
+        (b"\xff\xfe", UsageFault::Word { at: 2 }),
+    ];
+    for (row, &(word, wanted)) in rows.iter().enumerate() {
+        let words = many_words(rt.alloc(), word)?;
+        assert_eq!(rt;
+            answer(words.as_slice()),
+            Err(WordFault::Usage(wanted)),
+            "row {row}"
+        );
+    }
+    Ok(())
+}
+
+#[test]
+fn words_of_a_megabyte_are_read_to_their_end(rt: HostRuntime) -> Result<(), Fail> {
+    let alloc = rt.alloc();
+    let mut long = vec![in alloc; b'0'; 1_000_000]?;
+    // A million zeros write the number 0.
+    let words = day_words(alloc, long.as_slice(), b"7", START, HOUR, b"1")?;
+    let wanted = Ok(((0, 0), (7, 0), (14_817_600_000_000_000, 36_000_000, 10_000)));
+    assert_eq!(rt; answer(words.as_slice()), wanted);
+    let words = day_words(alloc, b"0", b"0", START, long.as_slice(), b"1")?;
+    assert_eq!(rt;
+        answer(words.as_slice()),
+        Err(WordFault::Window(WindowFault::Shape))
+    );
+    let words = day_words(alloc, b"0", b"0", START, HOUR, long.as_slice())?;
+    assert_eq!(rt;
+        answer(words.as_slice()),
+        Err(WordFault::Window(WindowFault::Resolution))
+    );
+    long.push(b'\xff')?;
+    let words = day_words(alloc, b"0", long.as_slice(), START, HOUR, b"1")?;
+    assert_eq!(rt;
+        answer(words.as_slice()),
+        Err(WordFault::Usage(UsageFault::Word { at: 3 }))
+    );
+    Ok(())
+}

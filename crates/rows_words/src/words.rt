@@ -1,0 +1,74 @@
+use elements::{Decimal, Text, Window};
+use pass_words::{Request, WordFault, read_words};
+use std::alloc::{AllocError, Global};
+
+/// The words of a line, which are parted by one blank each.
+pub fn words_of(alloc: Global, line: &[u8]) -> Result<Vec<Text>, AllocError> {
+    let mut words = Vec::new(alloc);
+    for word in line.split(|byte| *byte == b' ') {
+        words.push(Text::copy(alloc, word)?)?;
+    }
+    Ok(words)
+}
+
+/// Adds the word `--key=value`.
+fn push_option(
+    alloc: Global,
+    words: &mut Vec<Text>,
+    key: &[u8],
+    value: &[u8],
+) -> Result<(), AllocError> {
+    let mut word = Vec::new(alloc);
+    word.extend_from_slice(key)?;
+    word.extend_from_slice(value)?;
+    words.push(Text::copy(alloc, word.as_slice())?)?;
+    Ok(())
+}
+
+/// The words of `day` with these values for lat, lon, start, end and res.
+pub fn day_words(
+    alloc: Global,
+    lat: &[u8],
+    lon: &[u8],
+    start: &[u8],
+    last: &[u8],
+    res: &[u8],
+) -> Result<Vec<Text>, AllocError> {
+    let mut words = Vec::new(alloc);
+    words.push(Text::copy(alloc, b"day")?)?;
+    push_option(alloc, &mut words, b"--lat=", lat)?;
+    push_option(alloc, &mut words, b"--lon=", lon)?;
+    push_option(alloc, &mut words, b"--start=", start)?;
+    push_option(alloc, &mut words, b"--end=", last)?;
+    push_option(alloc, &mut words, b"--res=", res)?;
+    Ok(words)
+}
+
+/// The digits and places of a latitude and of a longitude, and of a window the start in nanoseconds from
+/// 2000-01-01T12:00:00 UTC, the ticks and the resolution.
+pub type Numbers = ((i64, u8), (i64, u8), (i64, u64, u64));
+
+/// The digits and the places of a decimal.
+fn digits(decimal: Decimal) -> (i64, u8) {
+    (decimal.digits(), decimal.places())
+}
+
+/// The start, the ticks and the resolution of a window.
+fn numbers(window: Window) -> (i64, u64, u64) {
+    (window.start().nanos(), window.ticks(), window.resolution())
+}
+
+/// The numbers of a request.
+fn numbers_of(request: Request) -> Numbers {
+    match request {
+        Request::Day { lat, lon, window } => (digits(lat), digits(lon), numbers(window)),
+    }
+}
+
+/// The numbers that the words ask for, or their fault.
+pub fn answer(words: &[Text]) -> Result<Numbers, WordFault> {
+    match read_words(words) {
+        Ok(request) => Ok(numbers_of(request)),
+        Err(fault) => Err(fault),
+    }
+}
