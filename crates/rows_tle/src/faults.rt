@@ -2,21 +2,29 @@ use crate::lines::{STATION1, STATION2, VANGUARD1, VANGUARD2, with};
 use std::test::Fail;
 use tle_read::{TleFault, read_pair};
 
+fn of_check(line: u8, found: u8, wanted: u8) -> Option<TleFault> {
+    Some(TleFault::Check {
+        line,
+        found,
+        wanted,
+    })
+}
+
+fn of_column(line: u8, first: u8) -> Option<TleFault> {
+    Some(TleFault::Column { line, first })
+}
+
+fn of_range(line: u8, first: u8) -> Option<TleFault> {
+    Some(TleFault::Range { line, first })
+}
+
 #[test]
 fn the_first_fault_is_answered(rt: HostRuntime) -> Result<(), Fail> {
     let changed = with(STATION1, 25, b"51782529", b'7');
     // A set without its last byte, with other blanks at the ends, with lines that are changed or exchanged.
     let pairs: [(&[u8], &[u8], Option<TleFault>); 12] = [
         (STATION1, STATION2, None),
-        (
-            &changed,
-            STATION2,
-            Some(TleFault::Check {
-                line: 1,
-                found: 7,
-                wanted: 8,
-            }),
-        ),
+        (&changed, STATION2, of_check(1, 7, 8)),
         (
             &STATION1[..68],
             STATION2,
@@ -72,15 +80,6 @@ fn check_digits_come_before_columns_and_line_1_before_line_2(rt: HostRuntime) ->
     let theory_range1 = with(&range1, 63, b"4", b'1');
     let other1 = with(&theory_range1, 3, b"00006", b'2');
     let range2 = with(VANGUARD2, 9, b"180.0001", b'2');
-    let of_check = |line, found, wanted| {
-        Some(TleFault::Check {
-            line,
-            found,
-            wanted,
-        })
-    };
-    let of_column = |line, first| Some(TleFault::Column { line, first });
-    let of_range = |line, first| Some(TleFault::Range { line, first });
     let pairs: [(&[u8; 69], &[u8; 69], Option<TleFault>); 16] = [
         (&check1, &check2, of_check(1, 4, 3)),
         (VANGUARD1, &check2, of_check(2, 8, 7)),
@@ -142,7 +141,7 @@ fn each_column_of_line_1_has_its_form(rt: HostRuntime) -> Result<(), Fail> {
     ];
     for &(at, text, last, first) in changes.iter() {
         let line = with(VANGUARD1, at, text, last);
-        let fault = Some(TleFault::Column { line: 1, first });
+        let fault = of_column(1, first);
         assert_eq!(rt;
             read_pair(&line, VANGUARD2).err(),
             fault,
@@ -171,7 +170,7 @@ fn each_column_of_line_2_has_its_form(rt: HostRuntime) -> Result<(), Fail> {
     ];
     for &(at, text, last, first) in changes.iter() {
         let line = with(VANGUARD2, at, text, last);
-        let fault = Some(TleFault::Column { line: 2, first });
+        let fault = of_column(2, first);
         assert_eq!(rt;
             read_pair(VANGUARD1, &line).err(),
             fault,
@@ -184,35 +183,15 @@ fn each_column_of_line_2_has_its_form(rt: HostRuntime) -> Result<(), Fail> {
 #[test]
 fn values_end_at_their_ranges(rt: HostRuntime) -> Result<(), Fail> {
     let days: [(&[u8], u8, Option<TleFault>); 10] = [
-        (
-            b"01366.50000000",
-            b'6',
-            Some(TleFault::Range { line: 1, first: 21 }),
-        ),
+        (b"01366.50000000", b'6', of_range(1, 21)),
         (b"00366.50000000", b'5', None),
         (b"00366.99999999", b'2', None),
-        (
-            b"00367.00000000",
-            b'1',
-            Some(TleFault::Range { line: 1, first: 21 }),
-        ),
+        (b"00367.00000000", b'1', of_range(1, 21)),
         (b"01365.99999999", b'2', None),
-        (
-            b"01366.00000000",
-            b'1',
-            Some(TleFault::Range { line: 1, first: 21 }),
-        ),
+        (b"01366.00000000", b'1', of_range(1, 21)),
         (b"00001.00000000", b'6', None),
-        (
-            b"00000.99999999",
-            b'7',
-            Some(TleFault::Range { line: 1, first: 21 }),
-        ),
-        (
-            b"00.99999999999",
-            b'4',
-            Some(TleFault::Range { line: 1, first: 21 }),
-        ),
+        (b"00000.99999999", b'7', of_range(1, 21)),
+        (b"00.99999999999", b'4', of_range(1, 21)),
         (b"00           1", b'6', None),
     ];
     for &(text, last, fault) in days.iter() {
@@ -221,37 +200,12 @@ fn values_end_at_their_ranges(rt: HostRuntime) -> Result<(), Fail> {
     }
     let values: [(usize, &[u8], u8, Option<TleFault>); 9] = [
         (9, b"180.0000", b'1', None),
-        (
-            9,
-            b"180.0001",
-            b'2',
-            Some(TleFault::Range { line: 2, first: 9 }),
-        ),
+        (9, b"180.0001", b'2', of_range(2, 9)),
         (18, b"360.0000", b'6', None),
-        (
-            18,
-            b"360.0001",
-            b'7',
-            Some(TleFault::Range { line: 2, first: 18 }),
-        ),
-        (
-            35,
-            b"360.0001",
-            b'7',
-            Some(TleFault::Range { line: 2, first: 35 }),
-        ),
-        (
-            44,
-            b"360.0001",
-            b'2',
-            Some(TleFault::Range { line: 2, first: 44 }),
-        ),
-        (
-            53,
-            b" 0.00000000",
-            b'9',
-            Some(TleFault::Range { line: 2, first: 53 }),
-        ),
+        (18, b"360.0001", b'7', of_range(2, 18)),
+        (35, b"360.0001", b'7', of_range(2, 35)),
+        (44, b"360.0001", b'2', of_range(2, 44)),
+        (53, b" 0.00000000", b'9', of_range(2, 53)),
         (53, b".0000000001", b'0', None),
         (53, b"99999999999", b'8', None),
     ];

@@ -17,8 +17,12 @@ pub(crate) const STATION2: &[u8; 69] =
 /// The line with another text from this column on, counted from 1, and another last byte.
 pub(crate) fn with(line: &[u8; 69], first: usize, text: &[u8], last: u8) -> [u8; 69] {
     let mut line = *line;
-    for (place, byte) in text.iter().enumerate() {
-        line[first - 1 + place] = *byte;
+    let mut column = first;
+    for byte in text {
+        if column >= 1 && column <= 69 {
+            line[column - 1] = *byte;
+        }
+        column = column.wrapping_add(1);
     }
     line[68] = last;
     line

@@ -5,7 +5,7 @@ use std::test::Fail;
 use tle_read::read_pair;
 
 /// The elements of two lines that have some.
-fn elements(line1: &[u8], line2: &[u8], rt: &impl Abort) -> Elements {
+fn elements(line1: &[u8; 69], line2: &[u8; 69], rt: &impl Abort) -> Elements {
     match read_pair(line1, line2) {
         Ok(elements) => elements,
         Err(fault) => panic!(rt; "no elements: {fault:?}"),
