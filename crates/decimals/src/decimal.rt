@@ -27,7 +27,7 @@ impl Model for Decimal {
 impl Decimal {
     ghost use Rattle.std.specs.Prelude.{pos};
     ghost use Rattle.decimals.specs.Decimal.{IsDecimal, value};
-    ghost use Rattle.exact.specs.Rational.{ratio};
+    ghost use Rattle.exact.specs.Rational.{of_int, ratio};
     ghost use Rattle.decimals.specs.Normal.{normal, signed};
 
     /// The decimal `digits / 10^places`, without the zeros at its end.
@@ -57,8 +57,10 @@ impl Decimal {
     }
 
     /// The whole number as a decimal.
+    #[tactic(auto, using(crate::proofs::UnitsLemmas::value_whole))]
     pub fn whole(number: i32) -> Decimal
-        ensures { result ≡ record { digits = number; places = 0 } }
+        ensures form { result ≡ record { digits = number; places = 0 } }
+        ensures value { value result ≡ of_int number }
     {
         Decimal {
             digits: number as i64,

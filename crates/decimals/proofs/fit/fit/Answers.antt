@@ -7,7 +7,7 @@ returns-in-Long c = λ n h. sym (long_fits_not c.args.minus n _ (rw c.in-Long.is
 
 pub returns-in-Short-eq0-default : goal.returns-in-Short-eq0-default
 returns-in-Short-eq0-default c = λ n h.
-    rw c.whole.ensures (sym (nought_fits c.args.minus n c.in-Short-eq0-default.digits c.in-Short-eq0-default.zeros _ (omega arith) (rw c.in-Short-eq0-default.is at h)))
+    rw c.whole.ensures.form (sym (nought_fits c.args.minus n c.in-Short-eq0-default.digits c.in-Short-eq0-default.zeros _ (omega arith) (rw c.in-Short-eq0-default.is at h)))
 
 pub returns-in-Short : goal.returns-in-Short
 returns-in-Short c = λ n h.
