@@ -1,0 +1,3 @@
+mod InsideLemmas
+mod PrintedLemmas
+mod RequestLemmas

@@ -1,0 +1,5 @@
+pub mod Day
+pub mod Outcome
+pub mod Printed
+pub mod Status
+pub mod Whole

@@ -1,0 +1,9 @@
+-- Whether an answer is spans.
+use Rattle.std.specs.Prelude.{ℕ, Bool, true, false}
+use Rattle.sgp4_model.specs.Records.{AnswerRecord, spans, unresolved, full}
+
+-- a row that tells its spans
+abbrev pub has_spans : AnswerRecord → Bool
+has_spans (spans count) = true
+has_spans (unresolved from to) = false
+has_spans (full at) = false

@@ -1,0 +1,12 @@
+//! What the program does: from the words of its command line to the bytes that it writes.
+#![tactic(auto)]
+
+mod day;
+mod outcome;
+mod print;
+mod top;
+mod track;
+
+pub use day::DayResult;
+pub use outcome::{Outcome, Product, status};
+pub use top::run;

@@ -1,0 +1,52 @@
+//! What a run comes to.
+ghost use Rattle.std.specs.Prelude.{◌≡◌};
+ghost use Rattle.top_call.specs.Status.{is_whole, status_of};
+
+use crate::day::DayResult;
+use pass_words::{UsageFault, WindowFault};
+use span_bisect::TrackAnswer;
+
+/// What a command gives.
+#[derive(Drop)]
+pub enum Product {
+    /// The daylight of a place.
+    Day(DayResult),
+}
+
+/// What a run comes to.
+#[derive(Drop)]
+pub enum Outcome {
+    /// The product was made and written.
+    Done { product: Product },
+    /// The words make no request.
+    Usage(UsageFault),
+    /// The words make no window.
+    BadWindow(WindowFault),
+    /// The product was made, and a write failed.
+    WriteFault { product: Product },
+    /// There was no memory for the product.
+    OutOfMemory,
+}
+
+/// The exit status of an outcome: 0 where the product is whole, 1 where it is not, 2 for the words, 3 for the window, 8
+/// for a write that failed, 9 for want of memory.
+pub fn status(outcome: &Outcome) -> u8
+    ensures { result ≡ status_of outcome.now }
+{
+    match outcome {
+        Outcome::Done { product } => { if is_whole(product) { 0 } else { 1 } }
+        Outcome::Usage(_) => 2,
+        Outcome::BadWindow(_) => 3,
+        Outcome::WriteFault { .. } => 8,
+        Outcome::OutOfMemory => 9,
+    }
+}
+
+/// Whether nothing is left out of the product.
+fn is_whole(product: &Product) -> bool
+    ensures { result ≡ is_whole product.now }
+{
+    match product {
+        Product::Day(day) => day.is_whole(),
+    }
+}
