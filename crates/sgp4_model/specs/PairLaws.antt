@@ -1,7 +1,8 @@
 -- Laws of sines and cosines, as public functions promise them.
 use Rattle.std.specs.Prelude.{◌↔◌, ℤ, pos, ◌^◌}
 use Rattle.exact.specs.Rational.{ℚ, ◌+ℚ◌, ◌-ℚ◌, abs_ℚ, ◌*ℚ◌, neg_ℚ, ratio, of_int, zero_ℚ, one_ℚ, ◌≤ℚ◌}
-use Rattle.sgp4_model.specs.Angle.{IsPi, IsNear, IsSinCos, part}
+use Rattle.sgp4_model.specs.Angle.{IsPi, IsNear, IsReduced, IsSinCos, Pair, part, quadrant, reduced, turned}
+use Rattle.sgp4_model.specs.AngleSums.{cosine_sum, sine_sum}
 
 -- an angle of at most 2^20 to either side of 0
 pub record IsModest (x : ℚ) : Type 0 where
@@ -44,3 +45,19 @@ SinePairsAreBounded = (pi x s c : ℚ) → IsPi pi → IsSinCos pi x s c → IsN
 -- their squares add up to 1, to 2^-58
 abbrev pub SquaresAddUpToOne : Type 0
 SquaresAddUpToOne = (pi x s c : ℚ) → IsPi pi → IsSinCos pi x s c → IsNear (part 58) (s *ℚ s +ℚ c *ℚ c) one_ℚ
+
+-- the sums at an angle less some quarter turns, turned back
+abbrev pub sums_at : ℚ → ℚ → ℤ → Pair
+sums_at pi x k = turned (quadrant k) (record { sine = sine_sum (reduced pi x k); cosine = cosine_sum (reduced pi x k) })
+
+-- for each angle there is a number of quarter turns at which the sums themselves are a pair
+abbrev pub SumsAreAPair : Type 0
+SumsAreAPair =
+    (pi x : ℚ) → IsPi pi →
+    (k : ℤ) × (IsReduced pi (reduced pi x k) × IsSinCos pi x (sums_at pi x k).sine (sums_at pi x k).cosine)
+
+-- where two numbers of quarter turns are allowed, the sums differ by at most 2^-66
+abbrev pub TiedSumsAreClose : Type 0
+TiedSumsAreClose =
+    (pi x : ℚ) (j k : ℤ) → IsPi pi → IsReduced pi (reduced pi x j) → IsReduced pi (reduced pi x k) →
+    IsNear (part 66) (sums_at pi x j).sine (sums_at pi x k).sine × IsNear (part 66) (sums_at pi x j).cosine (sums_at pi x k).cosine

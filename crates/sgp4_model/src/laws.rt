@@ -1,6 +1,6 @@
 //! Laws of sine and cosine pairs.
 
-ghost use Rattle.sgp4_model.specs.PairLaws.{NearIsDistance, OneAngleHasOnePair, ReflectionKeepsPairs, SineAndCosineExist, SinePairsAreBounded, SinePairsAreLipschitz, SquaresAddUpToOne, WholeTurnsKeepPairs};
+ghost use Rattle.sgp4_model.specs.PairLaws.{NearIsDistance, OneAngleHasOnePair, ReflectionKeepsPairs, SineAndCosineExist, SinePairsAreBounded, SinePairsAreLipschitz, SquaresAddUpToOne, SumsAreAPair, TiedSumsAreClose, WholeTurnsKeepPairs};
 ghost use Rattle.sgp4_model.specs.Slope.{SinePairsFollowTheirSlope};
 
 /// Each angle has a sine and a cosine.
@@ -46,4 +46,14 @@ pub fn near_is_distance()
 /// A step d of at most 1 takes a sine s and a cosine c to s + d * c and c - d * s, up to half of d * d and 2^-54.
 pub fn sine_pairs_follow_their_slope()
     ensures { SinePairsFollowTheirSlope }
+{}
+
+/// The sums themselves are a pair of each angle.
+pub fn sums_are_a_pair()
+    ensures { SumsAreAPair }
+{}
+
+/// The sums at the two numbers of quarter turns that a tie allows differ by at most 2^-66.
+pub fn tied_sums_are_close()
+    ensures { TiedSumsAreClose }
 {}
