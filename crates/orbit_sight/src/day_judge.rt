@@ -1,5 +1,5 @@
 //! The judge of daylight at a place.
-ghost use Rattle.std.specs.Prelude.{◌≡◌, ◌+◌, ◌<◌, pos};
+ghost use Rattle.std.specs.Prelude.{◌≡◌, ◌+◌, ◌<◌, ◌≤ℤ◌, ◌<ℤ◌, pos};
 ghost use Rattle.decimals.specs.Decimal.{value};
 ghost use Rattle.exact.specs.Rational.{ℚ};
 ghost use Rattle.fixed_iv.specs.Holds.{Holds};
@@ -56,13 +56,22 @@ impl<'a> Judge for DayJudge<'a> {
 
     fn judge(&self, from: u64, to: u64) -> Verdict {
         let light: Plain = light_over(self.spot, self.window.start(), from, to);
-        let (low, high) = light.bounds().ends();
-        if low > 0 {
-            Verdict::Yes
-        } else if high < 0 {
-            Verdict::No
-        } else {
-            Verdict::Unsure
-        }
+        verdict_of(light.bounds())
+    }
+}
+
+/// What an interval of the sine of the Sun's elevation says.
+fn verdict_of(light: Iv) -> Verdict
+    ensures yes { result ≡ Verdict.Yes → pos 0 <ℤ light.lo }
+    ensures no { result ≡ Verdict.No → light.hi <ℤ pos 0 }
+    ensures unsure { result ≡ Verdict.Unsure → (light.lo ≤ℤ pos 0) × (pos 0 ≤ℤ light.hi) }
+{
+    let (low, high) = light.ends();
+    if low > 0 {
+        Verdict::Yes
+    } else if high < 0 {
+        Verdict::No
+    } else {
+        Verdict::Unsure
     }
 }
