@@ -1,0 +1,6 @@
+pub mod BorderLemmas
+pub mod FlatLemmas
+pub mod KeyLemmas
+pub mod MaskLemmas
+pub mod ReadLemmas
+pub mod RowLemmas

@@ -1,0 +1,9 @@
+pub mod Fields
+pub mod Keys
+pub mod MaskFields
+pub mod MaskTests
+pub mod Masks
+pub mod Rows
+pub mod StationFile
+pub mod Steps
+pub mod Tables

@@ -1,0 +1,19 @@
+-- Steps of which each may fail, one after another.
+use Rattle.std.specs.Prelude.{Bool, true, false, Option, Some, None, Result, Ok, Err}
+use Rattle.station_file.specs.declared.fault.StFault.{StFault}
+
+infixl 10 ◌>>=◌
+-- the next step where there is a value, and the fault where there is none
+abbrev pub ◌>>=◌ : {A B : Type 0} → Result A StFault → (A → Result B StFault) → Result B StFault
+(Ok x) >>= next = next x
+(Err fault) >>= next = Err fault
+
+-- a value, or else a fault
+abbrev pub or_fault : {A : Type 0} → StFault → Option A → Result A StFault
+or_fault fault (Some x) = Ok x
+or_fault fault None = Err fault
+
+-- an answer where a test holds, or else a fault
+abbrev pub given : {A : Type 0} → Bool → StFault → Result A StFault → Result A StFault
+given true fault answer = answer
+given false fault answer = Err fault
