@@ -12,6 +12,7 @@ pub mod Resolution
 pub mod Roles
 pub mod Span
 pub mod Steps
+pub mod Taken
 pub mod Values
 pub mod Windows
 pub mod Words

@@ -1,10 +1,10 @@
 -- The places of the values of all keys of a command, and the values.
-use Rattle.std.specs.Prelude.{ℕ, ◌-◌, List, [], drop, slice_index_or, find, Option, Some, None, is_none, Result, Ok, Err}
+use Rattle.std.specs.Prelude.{ℕ, ◌-◌, List, [], drop, slice_index_or, find, Option, Some, None, is_none, option_map, Result}
 use Rattle.pass_words.specs.declared.fault.UsageFault.{UsageFault}
 use Rattle.pass_words.specs.declared.fault.UsageFault.TheVariants as faults
 use Rattle.pass_words.specs.declared.key.Opt.{Opt}
 use Rattle.pass_words.specs.declared.part.Part.{Part}
-use Rattle.pass_words.specs.Options.{options_after}
+use Rattle.pass_words.specs.Options.{option_roles, options, unless}
 use Rattle.pass_words.specs.Places.{Places}
 use Rattle.pass_words.specs.Steps.{◌>>=◌}
 
@@ -12,17 +12,12 @@ use Rattle.pass_words.specs.Steps.{◌>>=◌}
 abbrev pub first_missing : List Opt → Places → Option Opt
 first_missing keys places = find (λ key. is_none (places key)) keys
 
--- the places where no key is missing
-abbrev pub unless_missing : Option Opt → Places → Result Places UsageFault
-unless_missing None places = Ok places
-unless_missing (Some key) places = Err (faults.Missing key)
-
--- the places of the values of these keys in the words, or the first fault: the options from left to right, and then
--- the keys in their order
+-- the places of the values of these keys in the words, or the first fault: that of the options from left to right, and
+-- then the first key that has no value
 abbrev pub placed : List Opt → List (List ℕ) → Result Places UsageFault
 placed keys words = do
-  places ← options_after keys words
-  unless_missing (first_missing keys places) places
+  places ← options (option_roles keys words)
+  unless (option_map faults.Missing (first_missing keys places)) places
 
 -- the bytes of a part of the words
 abbrev pub text_at : List (List ℕ) → Part → List ℕ

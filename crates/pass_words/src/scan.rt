@@ -1,7 +1,8 @@
 //! The words after the command, read from left to right.
 ghost use Rattle.std.specs.Prelude.{◌≡◌, length, slice_index_or, [], ◌<◌, ◌≤◌, ◌^◌};
 ghost use Rattle.pass_words.specs.Found.{found_places, places_in};
-ghost use Rattle.pass_words.specs.Options.{options_after, taken};
+ghost use Rattle.pass_words.specs.Options.{option_roles, options};
+ghost use Rattle.pass_words.specs.Taken.{taken};
 
 use crate::fault::UsageFault;
 use crate::found::Found;
@@ -39,7 +40,7 @@ fn taken(mut found: Found, at: u64, role: Role) -> Result<Found, UsageFault>
 /// Where the values of the options after the first word stand, or the first word that is no part of an option or
 /// has a key that stood before.
 pub(crate) fn scan(keys: &[Opt], words: &[Text]) -> Result<Found, UsageFault>
-    ensures { found_places result ≡ options_after keys.now words.now }
+    ensures { found_places result ≡ options (option_roles keys.now words.now) }
 {
     let mut found = Found::none();
     for index in 1..words.len() {
