@@ -1,0 +1,14 @@
+pub mod Digits
+pub mod Entries
+pub mod Found
+pub mod Keys
+pub mod Kinds
+pub mod Lines
+pub mod Messages
+pub mod Needed
+pub mod Numbers
+pub mod Pieces
+pub mod Places
+pub mod Ranges
+pub mod Steps
+pub mod Units
