@@ -156,6 +156,13 @@ turn_is_held {z = z} n k c s = record { covers = c; known = λ t _. record { ins
 pub spread_by : {m : ℕ} (k d n : ℕ) {t e : Extent} → IsSpreadWithin m t → k * m + d ≤ n → IsSpreadWithin (k * t.spread + d) e → IsSpreadWithin n e
 spread_by {m} k d n {t} {e} s r h = record { measured = h.measured; spread = let g = mul-le-mul (nat_refl k) s.spread in omega (arith, g, h.spread) }
 
+-- on a least cell
+pub turn_room : 80 * 28640 + 64 ≤ 2291264
+turn_room = omega arith
+
+pub sun_room : 2 * 28640 + 256 ≤ 57536
+sun_room = omega arith
+
 -- ---- what an interval says
 pub light_above : {v : Iv} {x : ℚ} → pos 0 <ℤ v.lo → Holds v x → zero_ℚ <ℚ x
 light_above {v} {x} p h =

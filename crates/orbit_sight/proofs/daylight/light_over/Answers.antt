@@ -1,4 +1,4 @@
-use Rattle.std.proofs.Common.{arith, sym, subst, pos, negsuc}
+use Rattle.std.proofs.Common.{sym, subst, pos, negsuc}
 use Rattle.exact.specs.Rational.{of_int}
 use Rattle.fixed_iv.specs.Reach.{from_to, negative, nothing, ◌+ᴿ◌, ◌*ᴿ◌}
 use Rattle.fixed_iv.proofs.Held.{covered, within}
@@ -7,7 +7,7 @@ use Rattle.sgp4_model.specs.Sun.{IsSun}
 use Rattle.sgp4_model.specs.Time.{instant_of_place}
 use Rattle.sgp4_model.proofs.Pythagoras.{sine_pairs_are_bounded}
 use Rattle.orbit_sight.proofs.CellLemmas.{instant_is, start_within}
-use Rattle.orbit_sight.proofs.DayLemmas.{some_day_solution, spread_by, sun_held, turn_is_held}
+use Rattle.orbit_sight.proofs.DayLemmas.{some_day_solution, spread_by, sun_held, sun_room, turn_is_held, turn_room}
 use Rattle.orbit_sight.proofs.daylight.light_over.Goals as goal
 
 pub returns-clause-covers : goal.returns-clause-covers
@@ -35,12 +35,12 @@ returns-clause-narrow g c told least =
     let turn = c.sidereal.ensures.covers on.at s.pi _ s.turn s.is_pi on.covered angle in
     let sun = c.sun_direction.ensures.covers on.at s.pi _ s.sun s.is_pi on.covered toward in
     let size = sine_pairs_are_bounded _ _ _ _ s.is_pi s.is_sidereal in
-    let sine = turn_is_held 2291264 size.0 turn.0 (λ t. spread_by 80 64 2291264 spread (omega arith) (c.sidereal.ensures.narrow on.at _ on.covered t one).0) in
-    let cosine = turn_is_held 2291264 size.1 turn.1 (λ t. spread_by 80 64 2291264 spread (omega arith) (c.sidereal.ensures.narrow on.at _ on.covered t one).1) in
+    let sine = turn_is_held 2291264 size.0 turn.0 (λ t. spread_by 80 64 2291264 spread turn_room (c.sidereal.ensures.narrow on.at _ on.covered t one).0) in
+    let cosine = turn_is_held 2291264 size.1 turn.1 (λ t. spread_by 80 64 2291264 spread turn_room (c.sidereal.ensures.narrow on.at _ on.covered t one).1) in
     let rays = sun_held 57536 s.is_pi toward sun
-    (λ t. spread_by 2 256 57536 spread (omega arith) (c.sun_direction.ensures.narrow_x on.at _ on.covered t one))
-    (λ t. spread_by 2 256 57536 spread (omega arith) (c.sun_direction.ensures.narrow_y on.at _ on.covered t one))
-    (λ t. spread_by 2 256 57536 spread (omega arith) (c.sun_direction.ensures.narrow_z on.at _ on.covered t one)) in
+    (λ t. spread_by 2 256 57536 spread sun_room (c.sun_direction.ensures.narrow_x on.at _ on.covered t one))
+    (λ t. spread_by 2 256 57536 spread sun_room (c.sun_direction.ensures.narrow_y on.at _ on.covered t one))
+    (λ t. spread_by 2 256 57536 spread sun_room (c.sun_direction.ensures.narrow_z on.at _ on.covered t one)) in
     let light = c.daylight.ensures.held on.at s.pi s.of_latitude s.of_longitude s.turn s.sun _ _ _ s.is_pi s.is_latitude s.is_longitude sine cosine rays in
     let known = (within (from_to (negsuc 8) (pos 9) 1 33554432) light tt).known told tt in
     record { measured = known.measured; spread = known.narrow }
