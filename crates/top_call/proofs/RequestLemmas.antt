@@ -1,12 +1,25 @@
 -- What a product of a request says of the words that make the request.
-use Rattle.std.proofs.Common.{◌≡◌, ℕ, List, sym, ap, ◌∙◌}
+use Rattle.std.proofs.Common.{◌≡◌, ℕ, ◌≤◌, List, sym, subst, ap, ◌∙◌}
 use Rattle.std.specs.Prelude.{Ok}
 use Rattle.pass_words.specs.Words.{words_value}
 use Rattle.pass_words.specs.declared.request.Request.{Request}
 use Rattle.pass_words.specs.declared.request.Request.TheVariants as requests
+use Rattle.sgp4_model.specs.Certified.{IsCertified, TrackRecord}
+use Rattle.sgp4_model.specs.Records.{AnswerRecord, spans, unresolved, full}
+use Rattle.sgp4_model.specs.Time.{Throughout}
+use Rattle.sgp4_model.specs.declared.span.Span.{Span}
+use Rattle.top_call.specs.Day.{GrazesNowhereLong, IsResolved}
 use Rattle.top_call.specs.Outcome.{IsOfRequest, IsProductOf}
 use Rattle.top_call.specs.declared.outcome.Product.{Product}
 use Rattle.top_call.specs.declared.outcome.Product.TheVariants as products
+
+-- a certified answer is resolved where no long stretch grazes throughout
+resolved : (track : TrackRecord) (resolution slots used : ℕ) (answer : AnswerRecord) (list : List Span) →
+    IsCertified track resolution slots used answer list → GrazesNowhereLong track resolution → IsResolved answer
+resolved track resolution slots used (spans count) list h n = tt
+resolved track resolution slots used (unresolved from to) list h n =
+    n from (subst (λ t. t ≤ track.ticks) h.0.longer h.0.inside) (subst (λ t. Throughout from t track.grazes) h.0.longer h.0.grazes)
+resolved track resolution slots used (full at) list h n = tt
 
 pub product_of_words : (words : List (List ℕ)) (request : Request) (product : Product) → words_value words ≡ Ok request → IsOfRequest request product → IsProductOf words product
 product_of_words words (requests.Day lat lon window) (products.Day day) e h = record {
@@ -14,4 +27,5 @@ product_of_words words (requests.Day lat lon window) (products.Day day) e h = re
   lon = lon;
   of_words = e ∙ ap (λ w. Ok (requests.Day lat lon w)) (sym h.window_is);
   certified = h.certified;
+  resolved = resolved _ _ _ _ _ _ h.certified;
 }

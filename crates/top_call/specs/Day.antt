@@ -1,13 +1,14 @@
 -- The result of the command `day`, and what it certifies of the words.
-use Rattle.std.specs.Prelude.{◌≡◌, ℕ, ◌≤◌, List, All, ⊤, Ok}
+use Rattle.std.specs.Prelude.{◌≡◌, ℕ, ◌+◌, ◌≤◌, List, All, ⊤, Ok}
 use Rattle.decimals.specs.Decimal.{DecimalRecord, value}
 use Rattle.elements.specs.Window.{WindowRecord}
 use Rattle.pass_text.specs.DayLayout.{day_layout}
 use Rattle.pass_words.specs.Words.{words_value}
 use Rattle.pass_words.specs.declared.request.Request.{Request}
 use Rattle.pass_words.specs.declared.request.Request.TheVariants as requests
-use Rattle.sgp4_model.specs.Certified.{IsCertified}
+use Rattle.sgp4_model.specs.Certified.{IsCertified, TrackRecord}
 use Rattle.sgp4_model.specs.DaySolution.{day_track}
+use Rattle.sgp4_model.specs.Time.{Throughout}
 use Rattle.sgp4_model.specs.Records.{AnswerRecord, spans, unresolved, full}
 use Rattle.sgp4_model.specs.declared.span.Span.{Span}
 
@@ -48,9 +49,20 @@ pub record IsDayAt (lat lon : DecimalRecord) (window : WindowRecord) (day : DayR
       IsCertified (day_track (value lat) (value lon) day.window.start day.window.ticks) day.window.resolution slot_limit 0
       day.answer day.list
 
+-- the track grazes throughout no stretch of one tick more than the resolution
+abbrev pub GrazesNowhereLong : TrackRecord → ℕ → Type 0
+GrazesNowhereLong track resolution =
+    (from : ℕ) → from + resolution + 1 ≤ track.ticks → ¬ Throughout from (from + resolution + 1) track.grazes
+
+-- the answer is spans, or full
+abbrev pub IsResolved : AnswerRecord → Type 0
+IsResolved (spans count) = ⊤
+IsResolved (unresolved from to) = ⊥
+IsResolved (full at) = ⊤
+
 -- The result is that of the words: it has their window, and is certified for the place that they name. At every instant
 -- of a span of light (night) every day solution is light (night); undecided spans are no longer than the resolution and
--- only graze; an unresolved stretch grazes throughout.
+-- only graze; an unresolved stretch grazes throughout. So where no long stretch grazes throughout, it is resolved.
 pub record IsDayOf (words : List (List ℕ)) (day : DayRecord) : Type 0 where
   pub lat : DecimalRecord
   pub lon : DecimalRecord
@@ -58,3 +70,6 @@ pub record IsDayOf (words : List (List ℕ)) (day : DayRecord) : Type 0 where
   pub certified :
       IsCertified (day_track (value lat) (value lon) day.window.start day.window.ticks) day.window.resolution slot_limit 0
       day.answer day.list
+  pub resolved :
+      GrazesNowhereLong (day_track (value lat) (value lon) day.window.start day.window.ticks) day.window.resolution →
+      IsResolved day.answer

@@ -1,5 +1,5 @@
 -- The outcomes of a run: what each one prints, and what each says of the words.
-use Rattle.std.specs.Prelude.{◌≡◌, ◌⊎◌, ℕ, List, [], ◌++◌, ⊤, Ok}
+use Rattle.std.specs.Prelude.{◌≡◌, ◌⊎◌, ℕ, List, ⊤}
 use Rattle.std.specs.declared.option.Option.{Option}
 use Rattle.outside_io.specs.Counts.{Rose}
 use Rattle.outside_io.specs.Written.{Grew, GrewByFront}
@@ -22,14 +22,6 @@ layout (Day day) = day_text day
 -- the product is the one that the words ask for, and is certified
 abbrev pub IsProductOf : List (List ℕ) → Product → Type 0
 IsProductOf words (Day day) = IsDayOf words day
-
--- the one line of a refusal
-abbrev pub refusal : Outcome → List ℕ
-refusal (Usage fault) = usage_line fault
-refusal (BadWindow fault) = window_fault_line fault
-refusal OutOfMemory = memory_line
-refusal (Done product) = []
-refusal (WriteFault product) = []
 
 -- A refusal was printed: its one line, or a front of it where the output's count of faults rose.
 pub record IsRefused (before after : ℕ) (old now : Option (List ℕ)) (line : List ℕ) : Type 0 where

@@ -1,5 +1,5 @@
 //! A run: words, window, track, writing.
-ghost use Rattle.std.specs.Prelude.{◌≡◌, ◌↔◌, Err, Ok, IfOk};
+ghost use Rattle.std.specs.Prelude.{◌≡◌, ◌↔◌, Err, Ok};
 ghost use Rattle.outside_io.specs.Counts.{Rose};
 ghost use Rattle.pass_words.specs.Ranges.{IsInRange, IsPlace};
 ghost use Rattle.pass_words.specs.Words.{words_value};
@@ -7,7 +7,6 @@ ghost use Rattle.pass_words.specs.declared.fault.UsageFault.{UsageFault};
 ghost use Rattle.pass_words.specs.declared.fault.WindowFault.{WindowFault};
 ghost use Rattle.pass_words.specs.declared.fault.WordFault.TheVariants as faults;
 ghost use Rattle.pass_words.specs.declared.request.Request.{Request};
-ghost use Rattle.top_call.specs.Day.{IsDayAt};
 ghost use Rattle.top_call.specs.Outcome.{IsCertifiedDay, IsDayOutcome, IsDoneOrWant, IsOfRequest, IsProductOf, IsRefused, IsWritten};
 ghost use Rattle.top_call.specs.declared.outcome.Product.{Product};
 

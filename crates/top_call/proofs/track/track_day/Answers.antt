@@ -7,4 +7,4 @@ use Rattle.top_call.proofs.track.track_day.Goals as goal
 pub of-requires : goal.of-requires
 of-requires c =
     result_is_inside c.args.window _ _ _ _ (answer_record c.in-Ok.cover.answer) (answer_spans c.in-Ok.cover.answer)
-        (ap (λ (w : WindowRecord). w.ticks) c.make-judge.ensures.window) c.in-Ok.ensures.certified
+    (ap (λ (w : WindowRecord). w.ticks) c.make-judge.ensures.window) c.in-Ok.ensures.certified
