@@ -25,18 +25,18 @@ use Rattle.earth_frame.proofs.SlimLemmas.{IsLittle}
 -- ---- the mean angles
 -- the parts of a half turn at the base
 pub parts : ℕ → ℕ → ℤ → ℤ
-parts zero daily b = pos zero *ℤ pos 864000000000000000 +ℤ pos daily *ℤ b
+parts offset daily b = pos offset *ℤ pos 864000000000000000 +ℤ pos daily *ℤ b
 
-pub daily_is : (zero daily : ℕ) (b : ℤ) → ratio (parts zero daily b) 155520000000000000000000 ≡ daily_half_turns zero daily b
+pub daily_is : (offset daily : ℕ) (b : ℤ) → ratio (parts offset daily b) 155520000000000000000000 ≡ daily_half_turns offset daily b
 unfolding parts
-daily_is zero daily b =
-    ratio_is_product (parts zero daily b) 155520000000000000000000
-    ∙ ap (λ t. t *ℚ ratio (pos 1) 155520000000000000000000) (of_int_add _ _ ∙ ap (λ t. t +ℚ of_int (pos daily *ℤ b)) (of_int_mul (pos zero) (pos 864000000000000000)) ∙ ap (λ t. of_int (pos zero) *ℚ of_int (pos 864000000000000000) +ℚ t) (of_int_mul (pos daily) b))
-    ∙ ap (λ t. (of_int (pos zero) *ℚ t +ℚ of_int (pos daily) *ℚ of_int b) *ℚ ratio (pos 1) 155520000000000000000000) (of_int_is (pos 864000000000000000))
-    ∙ ring (of_int (pos zero) ∷ of_int (pos daily) ∷ of_int b ∷ []) {y = (of_int (pos zero) *ℚ ratio (pos 1) 1000 +ℚ of_int (pos daily) *ℚ ratio (pos 1) 10000000 *ℚ (of_int b *ℚ ratio (pos 1) 1000000000 *ℚ ratio (pos 1) 86400)) *ℚ ratio (pos 1) 180} (search reads depth 90) tt
-    ∙ ap (λ t. (t +ℚ of_int (pos daily) *ℚ ratio (pos 1) 10000000 *ℚ (of_int b *ℚ ratio (pos 1) 1000000000 *ℚ ratio (pos 1) 86400)) *ℚ ratio (pos 1) 180) (sym (ratio_is_product (pos zero) 1000))
-    ∙ ap (λ t. (ratio (pos zero) 1000 +ℚ t *ℚ (of_int b *ℚ ratio (pos 1) 1000000000 *ℚ ratio (pos 1) 86400)) *ℚ ratio (pos 1) 180) (sym (ratio_is_product (pos daily) 10000000))
-    ∙ ap (λ t. (ratio (pos zero) 1000 +ℚ ratio (pos daily) 10000000 *ℚ (t *ℚ ratio (pos 1) 86400)) *ℚ ratio (pos 1) 180) (sym (ratio_is_product b 1000000000))
+daily_is offset daily b =
+    ratio_is_product (parts offset daily b) 155520000000000000000000
+    ∙ ap (λ t. t *ℚ ratio (pos 1) 155520000000000000000000) (of_int_add _ _ ∙ ap (λ t. t +ℚ of_int (pos daily *ℤ b)) (of_int_mul (pos offset) (pos 864000000000000000)) ∙ ap (λ t. of_int (pos offset) *ℚ of_int (pos 864000000000000000) +ℚ t) (of_int_mul (pos daily) b))
+    ∙ ap (λ t. (of_int (pos offset) *ℚ t +ℚ of_int (pos daily) *ℚ of_int b) *ℚ ratio (pos 1) 155520000000000000000000) (of_int_is (pos 864000000000000000))
+    ∙ ring (of_int (pos offset) ∷ of_int (pos daily) ∷ of_int b ∷ []) {y = (of_int (pos offset) *ℚ ratio (pos 1) 1000 +ℚ of_int (pos daily) *ℚ ratio (pos 1) 10000000 *ℚ (of_int b *ℚ ratio (pos 1) 1000000000 *ℚ ratio (pos 1) 86400)) *ℚ ratio (pos 1) 180} (search reads depth 90) tt
+    ∙ ap (λ t. (t +ℚ of_int (pos daily) *ℚ ratio (pos 1) 10000000 *ℚ (of_int b *ℚ ratio (pos 1) 1000000000 *ℚ ratio (pos 1) 86400)) *ℚ ratio (pos 1) 180) (sym (ratio_is_product (pos offset) 1000))
+    ∙ ap (λ t. (ratio (pos offset) 1000 +ℚ t *ℚ (of_int b *ℚ ratio (pos 1) 1000000000 *ℚ ratio (pos 1) 86400)) *ℚ ratio (pos 1) 180) (sym (ratio_is_product (pos daily) 10000000))
+    ∙ ap (λ t. (ratio (pos offset) 1000 +ℚ ratio (pos daily) 10000000 *ℚ (t *ℚ ratio (pos 1) 86400)) *ℚ ratio (pos 1) 180) (sym (ratio_is_product b 1000000000))
 
 pub kept_anomaly : (b : ℤ) → IsInstant b →
     to_z w128 (of_z w128 (pos 308904192000000000000000 +ℤ to_z w128 (of_z w128 (pos 9856003 *ℤ to_z w128 (of_z w128 (to_z w64 (of_z w64 b))))))) ≡ parts 357528 9856003 b
