@@ -11,11 +11,11 @@ pub record Output : Type 0 where
   pub calls : ℕ
   pub faults : ℕ
 
--- a put of this piece fails: its number is listed, or the piece does not fit the room
+-- a put of this piece fails: its number is listed, or there is too little room for it
 abbrev pub PutFails : Output → List ℕ → Type 0
 PutFails out piece = Contains out.failing (one_more out.calls) ⊎ (out.room < length out.bytes + length piece)
 
--- what a put that fails appends: the first half of the piece, rounded down, as far as it fits
+-- what is kept of the piece of a put that fails: half of its bytes, or as many as there is room for
 abbrev pub half : Output → List ℕ → List ℕ
 half out piece = take (min (length piece / 2) (out.room - length out.bytes)) piece
 

@@ -1,9 +1,9 @@
-//! A part of a word.
-/// The bytes of a word from one of them on.
+//! The end of a word.
+/// What is left of a word from one of its bytes on, to the word's end.
 #[derive(Clone, Copy, Debug, PartialEq, Eq)]
 pub struct Part {
-    /// The word's number, counted from 1 with the command as word 1.
+    /// Which word it is. The command is word 1.
     pub word: u64,
-    /// The number of its first byte, where the word's first byte is byte 0.
+    /// How many bytes of the word stand before it.
     pub from: u64,
 }

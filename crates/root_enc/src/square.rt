@@ -14,8 +14,8 @@ const UNIT: u128 = 1 << 48;
 /// The tolerance of a root's square, 2^-60, in parts of 2^-96.
 const TOLERANCE: u128 = 1 << 36;
 
-/// An interval that holds every square root of every number that `x` holds. A part of `x` below 0 has no roots;
-/// where all of `x` is below 0 the answer is unbounded.
+/// An interval that holds every square root of every number that `x` holds. Numbers below 0 have none; if `x` holds no
+/// others, both ends are unbounded.
 pub fn sqrt(x: Iv) -> Iv
     ensures holds { HoldSquareRoots x result }
     ensures near { IsBounded x → pos 68719476736 ≤ℤ x.lo → AreNearSquareRoots x result }

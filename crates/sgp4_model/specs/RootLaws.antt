@@ -12,7 +12,7 @@ SquareRootExists = (x : ℚ) → zero_ℚ ≤ℚ x → (r : ℚ) × IsSqrt x r
 abbrev pub CubeRootExists : Type 0
 CubeRootExists = (x : ℚ) → zero_ℚ <ℚ x → (r : ℚ) × IsCbrt2 x r
 
--- where two numbers differ by at most d, and both are above the square of l, their square roots differ by at most
+-- where two numbers differ by at most d, and both are at least the square of l and 2^-60, their square roots differ by at most
 -- (d + 2^-59) / (2 l)
 abbrev pub SquareRootsAreLipschitz : Type 0
 SquareRootsAreLipschitz =

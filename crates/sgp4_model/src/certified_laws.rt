@@ -8,7 +8,7 @@ pub trait Tracked {
     ghost track: { TrackRecord };
 }
 
-/// The empty list tiles 0 to 0.
+/// No spans tile nothing: the empty list leads from 0 to 0.
 pub fn the_empty_list_tiles()
     ensures { EmptyListTiles }
 {}

@@ -13,7 +13,8 @@ pub fn one_angle_has_one_pair()
     ensures { OneAngleHasOnePair }
 {}
 
-/// Two sines and two cosines differ by no more than their angles and 2^-57, also where they come from two pis.
+/// Two sines and two cosines of angles of at most 2^20 in size differ by no more than their angles and 2^-57, also
+/// where they come from two pis.
 pub fn sine_pairs_are_lipschitz()
     ensures { SinePairsAreLipschitz }
 {}

@@ -12,8 +12,8 @@ pub fn cube_root_exists()
     ensures { CubeRootExists }
 {}
 
-/// Two square roots of numbers above the square of l differ by at most 1 / (2 l) times the difference of the numbers
-/// and 2^-59.
+/// Two square roots of numbers of at least the square of l and 2^-60 differ by at most 1 / (2 l) times the difference
+/// of the numbers and 2^-59.
 pub fn square_roots_are_lipschitz()
     ensures { SquareRootsAreLipschitz }
 {}
