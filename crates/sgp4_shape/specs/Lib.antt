@@ -1,1 +1,3 @@
 pub mod Covering
+pub mod HeldConsts
+pub mod HeldMean

@@ -1,0 +1,63 @@
+-- The guard on the eccentricity, by the ends of its bounds.
+use Rattle.std.proofs.Common.{arith, ℤ, pos, negsuc, ◌≤ℤ◌, ◌<ℤ◌, ◌*ℤ◌, ◌^◌, T, not, Bool, true, false}
+use Rattle.std.proofs.lemmas.Int.{ints, by_lt_z}
+use native.Mathlib.Nat.{zero-lt-suc}
+use Rattle.exact.specs.Rational.{ratio, number, neg_ℚ, one_ℚ, ◌≤ℚ◌, ◌<ℚ◌, ◌-ℚ◌, at_least_0}
+use Rattle.exact.proofs.Fractions.{le_of_cross, cross_of_le}
+use Rattle.fixed_iv.specs.declared.iv.Iv.{Iv}
+use Rattle.sgp4_drag.specs.Guard.{IsInsideGuard}
+use Rattle.sgp4_model.specs.Numerals.{decimal}
+
+above_low : (n : ℤ) → negsuc 281474976709 ≤ℤ n → neg_ℚ (decimal 1 3) ≤ℚ ratio n (2 ^ 48)
+unfolding number ratio neg_ℚ
+above_low n h = le_of_cross (record { num = negsuc 0; den = 1000; fits = zero-lt-suc 999 }) (record { num = n; den = 281474976710656; fits = zero-lt-suc 281474976710655 }) (omega (arith, ints, h))
+
+low_above : (n : ℤ) → neg_ℚ (decimal 1 3) ≤ℚ ratio n (2 ^ 48) → negsuc 281474976709 ≤ℤ n
+unfolding number ratio neg_ℚ
+low_above n h =
+    let cross = cross_of_le (record { num = negsuc 0; den = 1000; fits = zero-lt-suc 999 }) (record { num = n; den = 281474976710656; fits = zero-lt-suc 281474976710655 }) h in
+    by_cross n cross
+  where
+    by_cross : (n : ℤ) → (negsuc 0 *ℤ pos 281474976710656) ≤ℤ (n *ℤ pos 1000) → negsuc 281474976709 ≤ℤ n
+    by_cross n h = omega (arith, ints, h)
+
+one_below : (n : ℤ) → one_ℚ ≤ℚ ratio n (2 ^ 48) → pos 281474976710656 ≤ℤ n
+unfolding number ratio
+one_below n h =
+    by_cross n (cross_of_le (record { num = pos 1; den = 1; fits = zero-lt-suc 0 }) (record { num = n; den = 281474976710656; fits = zero-lt-suc 281474976710655 }) h)
+  where
+    by_cross : (n : ℤ) → (pos 1 *ℤ pos 281474976710656) ≤ℤ (n *ℤ pos 1) → pos 281474976710656 ≤ℤ n
+    by_cross n h = omega (arith, ints, h)
+
+one_above : (n : ℤ) → pos 281474976710656 ≤ℤ n → one_ℚ ≤ℚ ratio n (2 ^ 48)
+unfolding number ratio
+one_above n h = le_of_cross (record { num = pos 1; den = 1; fits = zero-lt-suc 0 }) (record { num = n; den = 281474976710656; fits = zero-lt-suc 281474976710655 }) (omega (arith, ints, h))
+
+by_test : {P : Type 0} (t : Bool) → (T t → P) → (T (not t) → P) → P
+by_test true f g = f tt
+by_test false f g = g tt
+
+clash : (t : Bool) → T t → T (not t) → ⊥
+clash true f g = g
+clash false f g = f
+
+below_one : (n : ℤ) → n <ℤ pos 281474976710656 → ratio n (2 ^ 48) <ℚ one_ℚ
+below_one n h = by_test (at_least_0 (ratio n (2 ^ 48) -ℚ one_ℚ)) (λ t. absurd (apart (one_below n (record { le = t })))) (λ t. record { lt = t })
+  where
+    apart : pos 281474976710656 ≤ℤ n → ⊥
+    apart k = omega (arith, ints, h, k)
+
+one_not_below : (n : ℤ) → ratio n (2 ^ 48) <ℚ one_ℚ → n <ℤ pos 281474976710656
+one_not_below n h = not_least n (λ k. clash (at_least_0 (ratio n (2 ^ 48) -ℚ one_ℚ)) (one_above n k).le h.lt)
+  where
+    not_least : (n : ℤ) → (pos 281474976710656 ≤ℤ n → ⊥) → n <ℤ pos 281474976710656
+    not_least n f = by_lt_z n (pos 281474976710656) (λ k. k) (λ k. absurd (f (omega (arith, ints, k))))
+
+pub guard_of_ends : (v : Iv) → negsuc 281474976709 ≤ℤ v.lo → v.hi <ℤ pos 281474976710656 → IsInsideGuard v
+guard_of_ends v f g = record {
+  low = record { low = above_low v.lo f; high = below_one v.lo (omega (arith, ints, v.ordered, g)) };
+  high = record { low = above_low v.hi (omega (arith, ints, v.ordered, f)); high = below_one v.hi g };
+}
+
+pub ends_of_guard : (v : Iv) → IsInsideGuard v → (negsuc 281474976709 ≤ℤ v.lo) × (v.hi <ℤ pos 281474976710656)
+ends_of_guard v h = (low_above v.lo h.low.low, one_not_below v.hi h.high.high)

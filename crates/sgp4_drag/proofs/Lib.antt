@@ -1,0 +1,2 @@
+mod GuardLemmas
+mod SecularLemmas

@@ -1,0 +1,49 @@
+//! The mean elements.
+ghost use Rattle.std.specs.Prelude.{IfNone, IfSome};
+ghost use Rattle.exact.specs.Rational.{ℚ, ◌*ℚ◌};
+ghost use Rattle.fixed_iv.specs.Place.{Place};
+ghost use Rattle.fixed_iv.specs.Reach.{Reach, IsHeld};
+ghost use Rattle.sgp4_model.specs.Angle.{IsPi};
+ghost use Rattle.sgp4_model.specs.MeanElements.{IsMean};
+ghost use Rattle.sgp4_model.specs.OrbitRecords.{ConstRecord, MeanRecord};
+ghost use Rattle.sgp4_shape.specs.Covering.{CoversConsts, CoversMean, unit_minutes};
+ghost use Rattle.sgp4_shape.specs.HeldConsts.{ConstReach, IsHeldConsts};
+ghost use Rattle.sgp4_shape.specs.HeldMean.{IsHeldMean};
+ghost use Rattle.sgp4_drag.specs.Secular.{IsOutOfGuard, reach_mean};
+
+use crate::angles::{drag_correction, grown, node};
+use crate::eccentricity::{is_guarded, raised};
+use crate::factors::{decayed, drag_factor, longitude_gain, semimajor_axis};
+use fixed_iv::Enc;
+use sgp4_shape::{Consts, Mean};
+
+/// The mean elements at a time. `t` covers minutes from the epoch divided by 16,384. None where the bounds of the
+/// eccentricity, before it is raised, are not inside -0.001 <= e < 1.
+pub fn secular<E: Enc>(consts: &Consts<E>, t: E) -> Option<Mean<E>>
+    ensures covers { IfSome result (λ mean. (h : Place) (pi x : ℚ) (k : ConstRecord) (m : MeanRecord) → CoversConsts E.covers consts.now k → E.covers t h x → IsPi pi → IsMean k pi (unit_minutes 1 *ℚ x) m → CoversMean E.covers mean h m) }
+    ensures held { IfSome result (λ mean. (h : Place) (pi x : ℚ) (k : ConstRecord) (m : MeanRecord) (r : ConstReach) (n : Reach) → IsHeldConsts E.covers E.extent E.tells consts.now h k r → IsHeld E.covers E.extent E.tells t h x n → IsPi pi → IsMean k pi (unit_minutes 1 *ℚ x) m → IsHeldMean E.covers E.extent E.tells mean h m (reach_mean r n)) }
+    ensures none { IfNone result (IsOutOfGuard E.covers E.extent E.tells consts.now t) }
+{
+    let k = consts;
+    let mf = grown(k.m0, k.mdot, t);
+    let (_, cosine) = mf.sincos();
+    let g = drag_correction(k.omgcof, k.xmcof, k.eta, k.delmo, cosine, t);
+    let mm = mf.plus(g);
+    let (sine, _) = mm.sincos();
+    let ecc = decayed(k.e, k.bstar, k.c4, k.c5, k.sin_m0, sine, t);
+    if !is_guarded(ecc.bounds()) {
+        return None;
+    }
+    let t2 = t.times(t);
+    let t3 = t2.times(t);
+    let t4 = t2.times(t2);
+    let tempa = drag_factor(k.c1, k.d2, k.d3, k.d4, t, t2, t3, t4);
+    let templ = longitude_gain(k.t2cof, k.t3cof, k.t4cof, k.t5cof, t, t2, t3, t4);
+    Some(Mean {
+        am: semimajor_axis(k.a, tempa),
+        em: raised(ecc),
+        ml: mm.plus(k.n0.times(templ)),
+        wm: grown(k.w0, k.wdot, t).minus(g),
+        om: node(k.o0, k.odot, k.nodecf, t, t2),
+    })
+}
