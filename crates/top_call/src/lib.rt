@@ -9,4 +9,4 @@ mod track;
 
 pub use day::DayResult;
 pub use outcome::{Outcome, Product, status};
-pub use top::run;
+pub use top::{run, run_for_nobody};

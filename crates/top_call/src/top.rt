@@ -15,7 +15,7 @@ use crate::outcome::{Outcome, Product};
 use crate::print::print_day;
 use crate::track::track_day;
 use elements::{Decimal, Text, Window};
-use outside_io::{Failed, Shelf, Sink};
+use outside_io::{Failed, NeverFailShelf, NeverFailSink, Shelf, Sink};
 use pass_text::{memory_line, usage_line, window_fault_line};
 use pass_words::{Request, WordFault, read_words};
 use std::alloc::{AllocError, Global};
@@ -44,6 +44,19 @@ pub fn run<S: Shelf, K: Sink>(alloc: Global, words: &[Text], shelf: &mut S, out:
             )
         }
     }
+}
+
+/// A run over a shelf and an output that never fail: words that make a request are done, or want memory.
+#[tactic(auto, using(outside_io::proofs::CountsLemmas::zero_never_rose))]
+pub fn run_for_nobody(
+    alloc: Global,
+    words: &[Text],
+    shelf: &mut NeverFailShelf,
+    out: &mut NeverFailSink,
+) -> Outcome
+    ensures { (request : Request) → words_value words.now ≡ Ok request → IsDoneOrWant result }
+{
+    run(alloc, words, shelf, out)
 }
 
 /// Does what a request asks for, and writes what comes of it.
