@@ -1,0 +1,34 @@
+use elements::Text;
+use outside_io::{MemoryShelf, MemorySink};
+use std::alloc::{AllocError, Global};
+use top_call::{Outcome, run, status};
+
+/// The words of a line, which are parted by one blank each.
+pub fn words_of(alloc: Global, line: &[u8]) -> Result<Vec<Text>, AllocError> {
+    let mut words = Vec::new(alloc);
+    for word in line.split(|byte| *byte == b' ') {
+        words.push(Text::copy(alloc, word)?)?;
+    }
+    Ok(words)
+}
+
+/// What the words of a line come to over this output. No file stands on the shelf, and its first load would fail.
+pub fn run_line(alloc: Global, line: &[u8], out: &mut MemorySink) -> Result<Outcome, AllocError> {
+    let words = words_of(alloc, line)?;
+    let mut shelf = MemoryShelf::make(alloc)?;
+    Ok(run(alloc, words.as_slice(), &mut shelf, out))
+}
+
+/// What the words of a line write into an output with this room, whose put of this number, counted from 1, fails; and
+/// the exit status.
+pub fn written_by(
+    alloc: Global,
+    line: &[u8],
+    room: u64,
+    failing: u64,
+) -> Result<(MemorySink, u8), AllocError> {
+    let mut out = MemorySink::make(alloc, room)?;
+    out.fail_at(failing)?;
+    let outcome = run_line(alloc, line, &mut out)?;
+    Ok((out, status(&outcome)))
+}

@@ -1,0 +1,11 @@
+//! Tests of the whole program but its `main`.
+#![tactic(auto)]
+
+#[cfg(test)]
+mod calls;
+#[cfg(test)]
+mod daylight;
+#[cfg(test)]
+mod faults;
+#[cfg(test)]
+mod refusals;
