@@ -1,0 +1,7 @@
+//! Tests of enclosed orbits.
+#![tactic(auto)]
+
+#[cfg(test)]
+mod expected;
+#[cfg(test)]
+mod mean_elements;
