@@ -3,7 +3,8 @@
 
 Every value is made here from exact fractions and from series of 60 digits, by the meaning of the operations and not by
 the program's steps; only the ends of sines and cosines follow the program's rounding, and each is checked here to hold
-the true numbers and to be at most 16 units wider. Run it at the top of the repository: python3 tools/numbers/expected.py
+the true numbers and to be at most 16 units wider. Run it at the top of the repository,
+python3 tools/numbers/expected.py, and then rt fmt in the crate.
 """
 from fractions import Fraction as F
 from math import floor, isqrt

@@ -16,7 +16,8 @@ use Rattle.fixed_iv.specs.declared.iv.Iv.{Iv}
 use Rattle.fixed_iv.proofs.HoldsLemmas.{holds_low}
 use Rattle.fixed_iv.proofs.NarrowLemmas.{narrow_by}
 use Rattle.fixed_iv.proofs.OuterLemmas.{width_is}
-use Rattle.fixed_iv.proofs.QuotientLemmas.{cancel, is_quotient, negative_units_not_zero, positive_divisor, times_units, unit_ratio, units_not_zero, zero_not_above, zero_not_below}
+use Rattle.fixed_iv.proofs.QuotientLemmas.{cancel, positive_divisor, unit_ratio}
+use Rattle.fixed_iv.proofs.QuotientResultLemmas.{is_quotient, negative_units_not_zero, times_units, units_not_zero, zero_not_above, zero_not_below}
 use Rattle.fixed_iv.proofs.SumLemmas.{result_at}
 use Rattle.fixed_iv.proofs.WidthLemmas.{IsSized, natural, natural_add, natural_mul, sized, sized_difference, sized_product, tight_bounded, tight_width}
 
