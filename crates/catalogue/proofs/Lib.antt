@@ -1,2 +1,4 @@
+pub mod LineLemmas
 pub mod MapLemmas
 pub mod NameLemmas
+pub mod SetLemmas

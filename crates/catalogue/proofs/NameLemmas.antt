@@ -38,3 +38,7 @@ first_few text = rw (length-take 64 text) (omega arith)
 pub is_name : (text : List ℕ) → IsName (name_of text)
 unfolding name_of
 is_name text = kept_is (first_bytes (skip_spaces (without_zero (skip_spaces text)))) (first_few (skip_spaces (without_zero (skip_spaces text))))
+
+-- a dash is a name
+pub dash_is_name : IsName (45 ∷ [])
+dash_is_name = kept_is [] (omega arith)

@@ -2,8 +2,13 @@
 #![tactic(auto)]
 
 mod catalogue;
+mod cut;
 mod entry;
+mod fault;
+mod lines;
 mod name;
+mod two_line;
 
 pub use catalogue::Catalogue;
 pub use entry::Entry;
+pub use fault::{CatFault, SetFault};
