@@ -1,0 +1,55 @@
+//! Satellites are added one for each number.
+use catalogue::Catalogue;
+use elements::{Elements, Text};
+use std::alloc::{AllocError, Global};
+use std::test::Fail;
+use tle_read::read_pair;
+
+const STATION1: &[u8; 69] =
+    b"1 25544U 98067A   08264.51782528 -.00002182  00000-0 -11606-4 0  2927";
+
+const STATION2: &[u8; 69] =
+    b"2 25544  51.6416 247.4627 0006703 130.5360 325.0288 15.72125391563537";
+
+const VANGUARD1: &[u8; 69] =
+    b"1 00005U 58002B   00179.78495062  .00000023  00000-0  28098-4 0  4753";
+
+const VANGUARD2: &[u8; 69] =
+    b"2 00005  34.2682 348.7242 1859667 331.7664  19.3264 10.82419157413667";
+
+/// Adds a satellite without a name.
+#[tactic(auto, using(catalogue::proofs::NameLemmas::dash_is_name))]
+fn add(alloc: Global, catalogue: &mut Catalogue, elements: Elements) -> Result<bool, AllocError> {
+    let name = Text::copy(alloc, b"-".as_slice())?;
+    catalogue.add(elements, name)
+}
+
+#[test]
+fn each_number_is_added_once(rt: HostRuntime) -> Result<(), Fail> {
+    let mut catalogue = Catalogue::empty(rt.alloc());
+    let sets: [(&[u8], &[u8], bool); 3] = [
+        (STATION1, STATION2, true),
+        (VANGUARD1, VANGUARD2, true),
+        (STATION1, STATION2, false),
+    ];
+    assert_eq!(rt; catalogue.len(), 0, "no satellite is there at first");
+    for (line1, line2, added) in &sets {
+        match read_pair(line1, line2) {
+            Ok(elements) => match add(rt.alloc(), &mut catalogue, elements) {
+                Ok(was) => assert!(rt; was == *added, "a number is added once"),
+                Err(_) => assert!(rt; false, "memory is left"),
+            },
+            Err(_) => assert!(rt; false, "the lines are a set"),
+        }
+    }
+    assert_eq!(rt; catalogue.len(), 2, "two satellites are there");
+    if catalogue.len() == 2 {
+        assert_eq!(rt; catalogue.entry(0).elements.number(), 25544, "the first");
+        assert_eq!(rt; catalogue.entry(1).elements.number(), 5, "the second");
+        assert!(rt;
+            catalogue.entry(1).name.bytes() == b"-".as_slice(),
+            "a name"
+        );
+    }
+    Ok(())
+}

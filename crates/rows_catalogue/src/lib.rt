@@ -1,0 +1,5 @@
+//! Tests of catalogues.
+#![tactic(auto)]
+
+#[cfg(test)]
+mod adding;
