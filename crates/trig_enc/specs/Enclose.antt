@@ -1,5 +1,5 @@
 -- What intervals of sines and cosines hold, and how wide they are.
-use Rattle.std.specs.Prelude.{ℕ, ℤ, pos, negsuc, ◌≤ℤ◌, ◌<ℤ◌, ◌+ℤ◌, ◌-ℤ◌}
+use Rattle.std.specs.Prelude.{◌≡◌, ℕ, ℤ, pos, negsuc, ◌≤ℤ◌, ◌<ℤ◌, ◌+ℤ◌, ◌-ℤ◌}
 use Rattle.exact.specs.Rational.{ℚ, ◌+ℚ◌, ◌*ℚ◌, ratio, of_int, one_ℚ, zero_ℚ}
 use Rattle.sgp4_model.specs.Angle.{IsPi, IsSinCos, IsNear, part}
 use Rattle.fixed_iv.specs.Ends.{in_units}
@@ -42,6 +42,11 @@ pub record IsHighAround (units : ℤ) (radius : ℕ) (hi : ℤ) : Type 0 where
   pub least : (units +ℤ pos 1) ≤ℤ hi
   pub near : hi ≤ℤ (units +ℤ pos radius +ℤ pos 2)
   pub free : hi <ℤ pos 281474976710657 → (units +ℤ pos radius +ℤ pos 2) ≤ℤ hi
+
+-- from -(1 + 2^-48) to 1 + 2^-48
+pub record IsWidest (v : Iv) : Type 0 where
+  pub low : v.lo ≡ negsuc 281474976710656
+  pub high : v.hi ≡ pos 281474976710657
 
 -- no end lies past 1 + 2^-48, to either side
 pub record IsWithinLimits (v : Iv) : Type 0 where
