@@ -21,6 +21,7 @@ pub mod MotionLaws
 pub mod Numerals
 pub mod OrbitRecords
 pub mod Position
+pub mod PositionAt
 pub mod Rates
 pub mod Records
 pub mod Root

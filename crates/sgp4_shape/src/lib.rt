@@ -2,9 +2,11 @@
 #![tactic(auto)]
 
 mod consts;
+mod fault;
 mod lifted;
 mod mean;
 
 pub use consts::Consts;
+pub use fault::SatFault;
 pub use lifted::lift;
 pub use mean::Mean;
