@@ -1,0 +1,56 @@
+-- What numerals say of an enclosed recovered motion.
+use Rattle.std.specs.Prelude.{Bool, pos, negsuc}
+use Rattle.exact.specs.Rational.{ℚ, ◌*ℚ◌}
+use Rattle.fixed_iv.specs.Extent.{Extent}
+use Rattle.fixed_iv.specs.Place.{Place}
+use Rattle.fixed_iv.specs.Reach.{Reach, IsHeld, from_to}
+use Rattle.sgp4_model.specs.MeanMotion.{MotionRecord}
+use Rattle.sgp4_shape.specs.Covering.{unit_minutes}
+use Rattle.sgp4_motion.specs.declared.recovered.Recovered.{Recovered}
+
+-- numerals for each quantity
+pub record MotionReach : Type 0 where
+  pub i : Reach
+  pub c : Reach
+  pub si : Reach
+  pub e : Reach
+  pub n0 : Reach
+  pub a : Reach
+  pub bb : Reach
+  pub b0 : Reach
+  pub p : Reach
+  pub rp : Reach
+  pub con41 : Reach
+  pub con42 : Reach
+
+-- each quantity is covered at the place, and its enclosure is as its numerals say
+pub record IsHeldMotion {A : Type 0} (covers : A → Place → ℚ → Type 0) (extent : A → Extent) (told : Bool) (motion : Recovered A) (h : Place) (m : MotionRecord) (r : MotionReach) : Type 0 where
+  pub i : IsHeld covers extent told motion.i h m.i r.i
+  pub c : IsHeld covers extent told motion.c h m.c r.c
+  pub si : IsHeld covers extent told motion.si h m.si r.si
+  pub e : IsHeld covers extent told motion.e h m.e r.e
+  pub n0 : IsHeld covers extent told motion.n0 h (unit_minutes 1 *ℚ m.n0) r.n0
+  pub a : IsHeld covers extent told motion.a h m.a r.a
+  pub bb : IsHeld covers extent told motion.bb h m.bb r.bb
+  pub b0 : IsHeld covers extent told motion.b0 h m.b0 r.b0
+  pub p : IsHeld covers extent told motion.p h m.p r.p
+  pub rp : IsHeld covers extent told motion.rp h m.rp r.rp
+  pub con41 : IsHeld covers extent told motion.con41 h m.con41 r.con41
+  pub con42 : IsHeld covers extent told motion.con42 h m.con42 r.con42
+
+-- the numerals of an accepted set: ranges from its period and its perigee, spreads in units of 2^-48
+abbrev pub reach_motion : MotionReach
+reach_motion = record {
+  i = from_to (pos 0) (pos 306) 100 8;
+  c = from_to (negsuc 100000) (pos 100001) 100000 24;
+  si = from_to (negsuc 100000) (pos 100001) 100000 24;
+  e = from_to (pos 0) (pos 2) 10 1;
+  n0 = from_to (pos 4575) (pos 11380) 10 11264;
+  a = from_to (pos 10470) (pos 19214) 10000 96;
+  bb = from_to (pos 96) (pos 100) 100 3;
+  b0 = from_to (pos 97979) (pos 100001) 100000 8;
+  p = from_to (pos 10470) (pos 19214) 10000 104;
+  rp = from_to (pos 104703) (pos 192140) 100000 104;
+  con41 = from_to (negsuc 1000) (pos 2001) 1000 160;
+  con42 = from_to (negsuc 4001) (pos 1000) 1000 256;
+}
