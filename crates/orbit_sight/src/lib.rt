@@ -4,5 +4,8 @@
 mod cell;
 mod day_judge;
 mod daylight;
+mod far;
+mod moment;
 
 pub use day_judge::DayJudge;
+pub use far::{is_far, is_far_at};
