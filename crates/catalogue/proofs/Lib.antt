@@ -1,4 +1,6 @@
+pub mod ChoiceLemmas
 pub mod LineLemmas
 pub mod MapLemmas
 pub mod NameLemmas
+pub mod NearestLemmas
 pub mod SetLemmas
