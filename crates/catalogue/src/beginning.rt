@@ -18,6 +18,7 @@ pub(crate) struct Beginning {
 }
 
 /// The first line of a text.
+#[tactic(auto, using(crate::proofs::MessageLemmas::first_some, crate::proofs::MessageLemmas::first_none))]
 fn first_line(text: &[u8]) -> &[u8]
     ensures value { result.now ≡ first_of (split text.now) }
     ensures len { length result.now ≤ length text.now }
@@ -36,15 +37,15 @@ pub(crate) fn next_beginning(number: u32, text: &[u8]) -> Option<Beginning>
     ensures none { result ≡ None → IsLast number text.now }
 {
     let mut at = 0;
-    let mut number = number;
+    let mut next = number;
     let mut rest = text;
     while let Some(end) = line_end(rest) {
         let behind = cut(rest, end).1;
-        number += 1;
+        next += 1;
         if begins_message(first_line(behind)) {
             return Some(Beginning {
                 end: at + end,
-                number,
+                number: next,
             });
         }
         at += end + 1;
