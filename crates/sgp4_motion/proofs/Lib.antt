@@ -1,3 +1,5 @@
+mod FaultLemmas
 mod GivenLemmas
 mod InputLemmas
 mod LineLemmas
+mod RecoveryLemmas
