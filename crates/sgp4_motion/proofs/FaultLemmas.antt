@@ -1,10 +1,10 @@
 -- Comparisons of given numbers with the limits.
-use Rattle.std.proofs.Common.{◌≡◌, [], ◌∷◌, ◌↔◌, IsTrue, T, not, Bool, true, false, arith, refl, pos, negsuc, ◌^◌}
-use Rattle.exact.specs.Rational.{ℚ, ratio, neg_ℚ, abs_ℚ, at_least_0, ◌-ℚ◌, ◌≤ℚ◌, ◌<ℚ◌}
+use Rattle.std.proofs.Common.{◌≡◌, [], ◌∷◌, ◌↔◌, IsTrue, T, not, Bool, true, false, arith, refl, negsuc}
+use Rattle.exact.specs.Rational.{ℚ, ratio, abs_ℚ, at_least_0, ◌-ℚ◌, ◌≤ℚ◌, ◌<ℚ◌}
 use Rattle.exact.proofs.RationalRing.{reads}
 use Rattle.exact.proofs.Order.{le_by, le_trans, gap}
 use Rattle.exact.proofs.Bounds.{abs_le, le_abs, neg_le_abs}
-use Rattle.exact.proofs.Strict.{le_of_lt, lt_by, positive_gap}
+use Rattle.exact.proofs.Strict.{lt_by, positive_gap}
 use Rattle.decimals.specs.OrderLaws.{lt_of_not_le, not_le}
 use Rattle.sgp4_model.specs.Numerals.{decimal}
 

@@ -1,12 +1,11 @@
 -- Numbers of an element set as ratios of whole numbers, and their intervals.
-use Rattle.std.proofs.Common.{◌≡◌, refl, arith, [], ◌∷◌, sym, subst, ap, ◌∙◌, ℕ, zero, suc, ◌*◌, ◌^◌, ◌<◌, ◌≤◌, T, ℤ, pos, negsuc, ◌+ℤ◌, ◌-ℤ◌, ◌*ℤ◌, ◌≤ℤ◌, ◌<ℤ◌, mul-pos, unsigned_abs, to_z, of_z, FitsSigned}
+use Rattle.std.proofs.Common.{◌≡◌, refl, arith, [], ◌∷◌, subst, ap, ◌∙◌, ℕ, zero, suc, ◌*◌, ◌^◌, ◌<◌, ◌≤◌, T, ℤ, pos, negsuc, ◌+ℤ◌, ◌-ℤ◌, ◌*ℤ◌, ◌≤ℤ◌, ◌<ℤ◌, mul-pos, unsigned_abs, to_z, of_z, FitsSigned}
 use Rattle.std.specs.Int.{w64, w128}
 use Rattle.std.proofs.lemmas.Int.{ints, by_lt_z, fits_signed_from_abs, fits_signed_mul, to_z-of_z}
 use Rattle.std.proofs.Math.Nat.{suc-pred-eq_of_pos, zero-lt-suc}
-use Rattle.algebra.proofs.IntRing.{ring_ℤ, reads_ℤ}
 use Rattle.exact.specs.Rational.{ℚ, glue, ratio, of_int, inverse, ◌*ℚ◌, ◌/ℚ◌, zero_ℚ, ◌≤ℚ◌, ◌<ℚ◌}
-use Rattle.exact.proofs.RationalRing.{ring, reads}
-use Rattle.exact.proofs.Order.{le_by, gap, known, ◌⊕◌, ◌⊗◌}
+use Rattle.exact.proofs.RationalRing.{reads}
+use Rattle.exact.proofs.Order.{le_by, gap, known, ◌⊗◌}
 use Rattle.exact.proofs.Integers.{of_int_add, of_int_is, of_int_le, ratio_is_product}
 use Rattle.exact.proofs.Intervals.{Interval, Inside}
 use Rattle.decimals.specs.Decimal.{DecimalRecord, IsDecimal, value}

@@ -1,8 +1,8 @@
 -- Where the given numbers of a set lie, and how they enter the equations.
-use Rattle.std.proofs.Common.{◌≡◌, [], ◌∷◌, sym, ap, ◌∙◌, ◌^◌, pos}
+use Rattle.std.proofs.Common.{◌≡◌, [], ◌∷◌, sym, ap, ◌∙◌, pos}
 use Rattle.exact.specs.Rational.{ℚ, ratio, inverse, ◌+ℚ◌, ◌-ℚ◌, ◌*ℚ◌, ◌/ℚ◌, zero_ℚ, one_ℚ, ◌≤ℚ◌, ◌<ℚ◌}
 use Rattle.exact.proofs.RationalRing.{ring, reads}
-use Rattle.exact.proofs.Order.{le_by, le_trans, gap, known, not_negative, ◌⊕◌, ◌⊗◌}
+use Rattle.exact.proofs.Order.{le_by, gap, known, ◌⊕◌, ◌⊗◌}
 use Rattle.exact.proofs.Strict.{Positive, le_quotient, lt_of_gap, mul_inverse, not_zero, positive_known, positive_product, positive_sum, quotient_le}
 use Rattle.exact.proofs.Intervals.{Inside, between, inside}
 use Rattle.sgp4_model.specs.Angle.{IsPi}
@@ -13,7 +13,7 @@ use Rattle.sgp4_model.proofs.FarQuarters.{pi_above_3}
 use Rattle.sgp4_shape.specs.Covering.{unit_minutes}
 
 -- ---- signs
-positive_from : {l x : ℚ} → Positive l → l ≤ℚ x → Positive x
+pub positive_from : {l x : ℚ} → Positive l → l ≤ℚ x → Positive x
 positive_from {l} {x} p h = rw (ring (x ∷ l ∷ []) {x = x} {y = l +ℚ (x -ℚ l)} (search reads depth 90) tt) (positive_sum p (gap h))
 
 pub pi_positive : {pi : ℚ} → IsPi pi → Positive pi

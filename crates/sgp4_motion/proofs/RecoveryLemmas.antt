@@ -1,5 +1,5 @@
 -- The lines of the recovery as the code forms them.
-use Rattle.std.proofs.Common.{◌≡◌, [], ◌∷◌, sym, ap, ◌∙◌, ◌^◌, ◌*◌, ◌-◌, subst, pos, refl}
+use Rattle.std.proofs.Common.{◌≡◌, [], ◌∷◌, sym, ap, ◌∙◌, ◌^◌, ◌*◌, ◌-◌, pos}
 use Rattle.exact.specs.Rational.{ℚ, ratio, inverse, of_int, ◌+ℚ◌, ◌-ℚ◌, ◌*ℚ◌, ◌/ℚ◌, ◌^ℚ◌, zero_ℚ, one_ℚ, ◌≤ℚ◌}
 use Rattle.exact.proofs.RationalRing.{ring, reads}
 use Rattle.exact.proofs.Order.{le_by, gap, known, ◌⊕◌, ◌⊗◌}

@@ -1,5 +1,5 @@
 -- Which element sets may be refused, and which may be accepted: the limits of near-Earth orbits as this program takes them.
-use Rattle.std.specs.Prelude.{ℕ, ◌<◌, ◌⊎◌, ◌↔◌, ◌^◌, ◌*◌, ℤ, pos, ◌-ℤ◌, unsigned_abs}
+use Rattle.std.specs.Prelude.{◌<◌, ◌⊎◌, ◌↔◌, ◌^◌, ◌*◌, ℤ, ◌-ℤ◌, unsigned_abs}
 use Rattle.exact.specs.Rational.{ℚ, abs_ℚ, ◌≤ℚ◌, ◌<ℚ◌}
 use Rattle.sgp4_model.specs.Angle.{IsPi}
 use Rattle.sgp4_model.specs.MeanMotion.{MotionRecord, IsMotionRecovered, period_of, perigee_of}

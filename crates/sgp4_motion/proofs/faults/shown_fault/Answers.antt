@@ -1,4 +1,4 @@
-use Rattle.std.proofs.Common.{inl, inr}
+use Rattle.std.proofs.Common.{inl}
 use Rattle.exact.proofs.Integers.{of_int_is}
 use Rattle.decimals.specs.OrderLaws.{lt_of_not_le}
 use Rattle.sgp4_motion.proofs.FaultLemmas.{denies, shows}

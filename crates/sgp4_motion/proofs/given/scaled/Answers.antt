@@ -1,6 +1,4 @@
-use Rattle.std.proofs.Common.{arith, pos}
-use Rattle.std.proofs.lemmas.Int.{ints}
-use Rattle.decimals.proofs.UnitsLemmas.{ten_pow_pos}
+use Rattle.std.proofs.Common.{arith}
 use Rattle.sgp4_motion.proofs.GivenLemmas.{digits_in_code, positive_in_code, scale_in_code, scaled_is}
 use Rattle.sgp4_motion.proofs.given.scaled.Goals as goal
 

@@ -1,4 +1,3 @@
-use Rattle.std.proofs.Common.{arith}
 use Rattle.exact.proofs.Strict.{not_zero}
 use Rattle.fixed_iv.specs.Reach.{given, ◌/ᴿ◌}
 use Rattle.fixed_iv.proofs.Held.{constant_held, held_at, within}

@@ -1,5 +1,5 @@
 use Rattle.std.proofs.Common.{◌∙◌, ap, sym, pos}
-use Rattle.exact.specs.Rational.{◌+ℚ◌, ◌-ℚ◌, ◌*ℚ◌, ◌/ℚ◌}
+use Rattle.exact.specs.Rational.{◌*ℚ◌, ◌/ℚ◌}
 use Rattle.fixed_iv.specs.Reach.{given, turned, ◌+ᴿ◌, ◌-ᴿ◌, ◌*ᴿ◌, ◌/ᴿ◌}
 use Rattle.fixed_iv.specs.ReachRoots.{cube_rooted, rooted}
 use Rattle.fixed_iv.proofs.Held.{claim_held, constant_held, held_at, minus_held, plus_held, times_held, turn_held, within}
