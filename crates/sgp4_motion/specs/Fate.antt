@@ -1,5 +1,5 @@
 -- Which element sets may be refused, and which may be accepted: the limits of near-Earth orbits as this program takes them.
-use Rattle.std.specs.Prelude.{ℕ, ◌<◌, ◌⊎◌, ◌^◌, ◌*◌, ℤ, pos, ◌-ℤ◌, unsigned_abs}
+use Rattle.std.specs.Prelude.{◌<◌, ◌⊎◌, ◌↔◌, ◌^◌, ◌*◌, ℤ, ◌-ℤ◌, unsigned_abs}
 use Rattle.exact.specs.Rational.{ℚ, abs_ℚ, ◌≤ℚ◌, ◌<ℚ◌}
 use Rattle.sgp4_model.specs.Angle.{IsPi}
 use Rattle.sgp4_model.specs.MeanMotion.{MotionRecord, IsMotionRecovered, period_of, perigee_of}
@@ -73,6 +73,14 @@ MayRefuseSet set Drag = (¬ IsEccentric set × ¬ IsInclined set) × IsDragged s
 MayRefuseSet set Deep = MayBeDeep set
 MayRefuseSet set Low = MayBeLow set
 MayRefuseSet set Far = ⊥
+
+-- what is told exactly, where `refuses` says for which fault the set is refused: the first three faults, and that an instant
+-- is no cause
+pub record IsRefusedExactly (set : SetRecord) (refuses : SatFault → Type 0) : Type 0 where
+  pub eccentric : refuses Eccentric ↔ IsEccentric set
+  pub inclined : refuses Inclined ↔ (¬ IsEccentric set × IsInclined set)
+  pub drag : refuses Drag ↔ ((¬ IsEccentric set × ¬ IsInclined set) × IsDragged set)
+  pub never_far : ¬ refuses Far
 
 -- the set may be refused for this fault from the first instant to the last
 abbrev pub MayRefuse : SetRecord → ℤ → ℤ → SatFault → Type 0

@@ -38,6 +38,23 @@ pub record IsHeldMotion {A : Type 0} (covers : A → Place → ℚ → Type 0) (
   pub con41 : IsHeld covers extent told motion.con41 h m.con41 r.con41
   pub con42 : IsHeld covers extent told motion.con42 h m.con42 r.con42
 
+-- the numerals of a recovered motion, from a mean motion between 6.3 and 17 revolutions a day
+abbrev pub reach_recovered : MotionReach
+reach_recovered = record {
+  i = from_to (pos 0) (pos 306) 100 8;
+  c = from_to (negsuc 100000) (pos 100001) 100000 24;
+  si = from_to (negsuc 100000) (pos 100001) 100000 24;
+  e = from_to (pos 0) (pos 2) 10 1;
+  n0 = from_to (pos 4490) (pos 12170) 10 11264;
+  a = from_to (pos 10000) (pos 19450) 10000 96;
+  bb = from_to (pos 95999) (pos 100000) 100000 3;
+  b0 = from_to (pos 97979) (pos 100001) 100000 8;
+  p = from_to (pos 9600) (pos 19450) 10000 104;
+  rp = from_to (pos 80000) (pos 194500) 100000 104;
+  con41 = from_to (negsuc 1000) (pos 2001) 1000 160;
+  con42 = from_to (negsuc 4001) (pos 1000) 1000 256;
+}
+
 -- the numerals of an accepted set: ranges from its period and its perigee, spreads in units of 2^-48
 abbrev pub reach_motion : MotionReach
 reach_motion = record {
@@ -47,7 +64,7 @@ reach_motion = record {
   e = from_to (pos 0) (pos 2) 10 1;
   n0 = from_to (pos 4575) (pos 11380) 10 11264;
   a = from_to (pos 10470) (pos 19214) 10000 96;
-  bb = from_to (pos 96) (pos 100) 100 3;
+  bb = from_to (pos 95999) (pos 100000) 100000 3;
   b0 = from_to (pos 97979) (pos 100001) 100000 8;
   p = from_to (pos 10470) (pos 19214) 10000 104;
   rp = from_to (pos 104703) (pos 192140) 100000 104;

@@ -1,3 +1,4 @@
 pub mod Fate
 pub mod HeldMotion
+pub mod Numerals
 pub mod Recovered

@@ -1,0 +1,8 @@
+mod FaultLemmas
+mod GivenLemmas
+mod InputLemmas
+mod LimitLemmas
+mod LineLemmas
+mod MotionLemmas
+mod NearEarthLemmas
+mod RecoveryLemmas

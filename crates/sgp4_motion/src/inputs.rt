@@ -1,0 +1,52 @@
+//! What an element set gives, as enclosures.
+ghost use Rattle.std.specs.Prelude.{pos};
+ghost use Rattle.decimals.specs.Decimal.{value};
+ghost use Rattle.exact.specs.Rational.{ℚ, ◌*ℚ◌, ◌/ℚ◌, ◌≤ℚ◌, ratio, zero_ℚ};
+ghost use Rattle.fixed_iv.specs.Place.{Place};
+ghost use Rattle.fixed_iv.specs.Reach.{IsHeld};
+ghost use Rattle.sgp4_model.specs.Angle.{IsPi};
+ghost use Rattle.sgp4_model.specs.Degrees.{radians};
+ghost use Rattle.sgp4_model.specs.Numerals.{decimal, whole};
+ghost use Rattle.sgp4_model.specs.Wgs72.{ke};
+ghost use Rattle.sgp4_shape.specs.Covering.{unit_minutes};
+ghost use Rattle.sgp4_motion.specs.Numerals.{given_axis, given_eccentricity, given_inclination, given_motion};
+
+use crate::given::{over, scaled};
+use elements::Decimal;
+use fixed_iv::Enc;
+
+/// The eccentricity.
+pub(crate) fn eccentricity<E: Enc>(ecc: Decimal) -> E
+    requires least { zero_ℚ ≤ℚ value ecc }
+    requires most { value ecc ≤ℚ decimal 2 1 }
+    ensures { (h : Place) → IsHeld E.covers E.extent E.tells result h (value ecc) given_eccentricity }
+{
+    E::constant(scaled(ecc, 1, 1))
+}
+
+/// The inclination in radians.
+pub(crate) fn inclination<E: Enc>(incl: Decimal) -> E
+    requires least { zero_ℚ ≤ℚ value incl }
+    requires most { value incl ≤ℚ whole 175 }
+    ensures { (h : Place) (pi : ℚ) → IsPi pi → IsHeld E.covers E.extent E.tells result h (radians pi (value incl)) given_inclination }
+{
+    E::constant(scaled(incl, 1, 180)).times(E::pi())
+}
+
+/// The mean motion as given, in radians per 16,384 minutes.
+pub(crate) fn mean_motion<E: Enc>(motion: Decimal) -> E
+    requires least { decimal 63 1 ≤ℚ value motion }
+    requires most { value motion ≤ℚ whole 17 }
+    ensures { (h : Place) (pi : ℚ) → IsPi pi → IsHeld E.covers E.extent E.tells result h (unit_minutes 1 *ℚ (value motion *ℚ whole 2 *ℚ pi *ℚ ratio (pos 1) 1440)) given_motion }
+{
+    E::constant(scaled(motion, 1_024, 45)).times(E::pi())
+}
+
+/// The constant ke over the mean motion as given: a semimajor axis to the power 3/2. The ratio is 720 ke.
+pub(crate) fn axis_power<E: Enc>(motion: Decimal) -> E
+    requires least { decimal 63 1 ≤ℚ value motion }
+    requires most { value motion ≤ℚ whole 17 }
+    ensures { (h : Place) (pi : ℚ) → IsPi pi → IsHeld E.covers E.extent E.tells result h (ke /ℚ (value motion *ℚ whole 2 *ℚ pi *ℚ ratio (pos 1) 1440)) given_axis }
+{
+    E::constant(over(6_693_022_449, 125_000_000, motion)).divided(E::pi())
+}

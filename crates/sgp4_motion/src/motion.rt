@@ -1,0 +1,43 @@
+//! The recovered motion of a set, or why the set is refused.
+ghost use Rattle.std.specs.Prelude.{◌≡◌, IfErr, IfOk, T};
+ghost use Rattle.exact.specs.Rational.{ℚ};
+ghost use Rattle.elements.specs.Elements.{record_of_elements};
+ghost use Rattle.fixed_iv.specs.Place.{Place};
+ghost use Rattle.sgp4_model.specs.Angle.{IsPi};
+ghost use Rattle.sgp4_model.specs.MeanMotion.{MotionRecord, IsMotionRecovered};
+ghost use Rattle.sgp4_motion.specs.Fate.{IsNearEarth, IsOrdinary, IsRefusedExactly, MayRefuseSet};
+ghost use Rattle.sgp4_motion.specs.HeldMotion.{IsHeldMotion, reach_motion};
+ghost use Rattle.sgp4_motion.specs.Recovered.{CoversMotion};
+
+use crate::Recovered;
+use crate::faults::shown_fault;
+use crate::limits::{is_high, is_short};
+use crate::lines::{perigee_km, period};
+use crate::recovery::recovered;
+use elements::Elements;
+use fixed_iv::Enc;
+use sgp4_shape::SatFault;
+
+/// The recovered motion of a set, whose period is then below 225 minutes and whose perigee is at least 300 km high; or the
+/// first fault.
+pub fn recover_motion<E: Enc>(set: &Elements) -> Result<Recovered<E>, SatFault>
+    requires told { T E.tells }
+    ensures covers { IfOk result (λ motion. (pi : ℚ) (m : MotionRecord) → IsPi pi → IsMotionRecovered (record_of_elements set.now) pi m → CoversMotion E.covers motion m) }
+    ensures held { IfOk result (λ motion. (h : Place) (pi : ℚ) (m : MotionRecord) → IsPi pi → IsMotionRecovered (record_of_elements set.now) pi m → IsHeldMotion E.covers E.extent E.tells motion h m reach_motion) }
+    ensures accepted { IfOk result (λ _. IsOrdinary (record_of_elements set.now) × IsNearEarth (record_of_elements set.now)) }
+    ensures exact { IsRefusedExactly (record_of_elements set.now) (λ fault. result ≡ Err fault) }
+    ensures refused { IfErr result (MayRefuseSet (record_of_elements set.now)) }
+{
+    match shown_fault(set) {
+        Some(fault) => return Err(fault),
+        None => {}
+    }
+    let motion = recovered::<E>(set);
+    if !is_short(period(motion.n0).bounds()) {
+        return Err(SatFault::Deep);
+    }
+    if !is_high(perigee_km(motion.rp).bounds()) {
+        return Err(SatFault::Low);
+    }
+    Ok(motion)
+}

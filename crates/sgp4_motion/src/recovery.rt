@@ -1,0 +1,56 @@
+//! The recovery of the mean motion.
+ghost use Rattle.exact.specs.Rational.{ℚ, ◌≤ℚ◌};
+ghost use Rattle.elements.specs.Elements.{record_of_elements};
+ghost use Rattle.fixed_iv.specs.Place.{Place};
+ghost use Rattle.sgp4_model.specs.Angle.{IsPi};
+ghost use Rattle.sgp4_model.specs.MeanMotion.{MotionRecord, IsMotionRecovered};
+ghost use Rattle.sgp4_model.specs.Numerals.{decimal, whole};
+ghost use Rattle.sgp4_motion.specs.HeldMotion.{IsHeldMotion, reach_recovered};
+
+use crate::Recovered;
+use crate::inputs::{axis_power, eccentricity, inclination, mean_motion};
+use crate::lines::{con41, con42, corrected_axis, effect_at, oblateness, one_less_square};
+use elements::Elements;
+use fixed_iv::{Enc, Iv};
+
+/// The recovered motion, where the mean motion is between 6.3 and 17 revolutions a day.
+pub(crate) fn recovered<E: Enc>(set: &Elements) -> Recovered<E>
+    requires ecc { (record_of_elements set.now).ecc ≤ℚ decimal 2 1 }
+    requires incl { (record_of_elements set.now).incl ≤ℚ whole 175 }
+    requires least { decimal 63 1 ≤ℚ (record_of_elements set.now).motion }
+    requires most { (record_of_elements set.now).motion ≤ℚ whole 17 }
+    ensures { (h : Place) (pi : ℚ) (m : MotionRecord) → IsPi pi → IsMotionRecovered (record_of_elements set.now) pi m → IsHeldMotion E.covers E.extent E.tells result h m reach_recovered }
+{
+    let one = E::constant(Iv::from_ratio(1, 1));
+    let i = inclination::<E>(set.incl());
+    let (si, c) = i.sincos();
+    let c2 = c.times(c);
+    let con41 = con41(c2);
+    let e = eccentricity::<E>(set.ecc());
+    let bb = one_less_square(e);
+    let b0 = bb.sqrt();
+    let power = axis_power::<E>(set.motion());
+    let a1 = power.cbrt2();
+    let d1 = oblateness(con41, b0, bb);
+    let a2 = corrected_axis(a1, effect_at(d1, a1));
+    let growth = one.plus(effect_at(d1, a2));
+    let n0 = mean_motion::<E>(set.motion()).divided(growth);
+    let a = power.times(growth).cbrt2();
+    let p = a.times(bb);
+    let rp = a.times(one.minus(e));
+    let con42 = con42(c2);
+    Recovered {
+        i,
+        c,
+        si,
+        e,
+        n0,
+        a,
+        bb,
+        b0,
+        p,
+        rp,
+        con41,
+        con42,
+    }
+}
