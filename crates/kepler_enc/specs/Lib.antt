@@ -1,0 +1,3 @@
+pub mod Guard
+pub mod Numerals
+pub mod Radius
