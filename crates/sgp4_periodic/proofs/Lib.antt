@@ -1,0 +1,2 @@
+mod EquationLemmas
+mod GuardLemmas

@@ -1,0 +1,5 @@
+pub mod Corrected
+pub mod Covered
+pub mod Ellipse
+pub mod Guards
+pub mod Numerals
