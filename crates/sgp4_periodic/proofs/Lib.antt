@@ -1,2 +1,3 @@
 mod EquationLemmas
 mod GuardLemmas
+mod PlaceLemmas

@@ -3,3 +3,4 @@ pub mod Covered
 pub mod Ellipse
 pub mod Guards
 pub mod Numerals
+pub mod Unplaced

@@ -10,3 +10,6 @@ mod long_period;
 mod numerals;
 mod position;
 mod short_period;
+mod teme;
+
+pub use teme::place;
