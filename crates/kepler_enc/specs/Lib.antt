@@ -1,1 +1,3 @@
 pub mod Guard
+pub mod Numerals
+pub mod Radius

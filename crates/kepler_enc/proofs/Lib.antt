@@ -1,0 +1,5 @@
+mod BallLemmas
+mod RadiusLemmas
+mod RestLemmas
+mod RootLemmas
+mod SizeLemmas
