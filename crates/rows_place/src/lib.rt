@@ -1,0 +1,7 @@
+//! Tests of enclosed positions.
+#![tactic(auto)]
+
+#[cfg(test)]
+mod expected;
+#[cfg(test)]
+mod positions;

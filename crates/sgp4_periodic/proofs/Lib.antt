@@ -1,0 +1,3 @@
+mod EquationLemmas
+mod GuardLemmas
+mod PlaceLemmas

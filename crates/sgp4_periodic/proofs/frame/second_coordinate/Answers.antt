@@ -1,0 +1,10 @@
+use Rattle.fixed_iv.proofs.Held.{plus_held, times_held}
+use Rattle.sgp4_periodic.proofs.frame.second_coordinate.Goals as goal
+
+pub returns : goal.returns
+returns g c h _ _ _ _ _ _ _ _ _ _ mrt sine cosine tilted cw =
+    let law = g.met.E.Enc.contained in
+    let times_1 = times_held law c.times.ensures.covers c.times.ensures.narrow cosine tilted in
+    let times_2 = times_held law c.times-2.ensures.covers c.times-2.ensures.narrow sine cw in
+    let plus_1 = plus_held law c.plus.ensures.covers c.plus.ensures.narrow times_1 times_2 in
+    times_held law c.times-3.ensures.covers c.times-3.ensures.narrow mrt plus_1

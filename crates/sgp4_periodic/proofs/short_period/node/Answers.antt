@@ -1,0 +1,9 @@
+use Rattle.fixed_iv.proofs.Held.{plus_held, times_held}
+use Rattle.sgp4_periodic.proofs.short_period.node.Goals as goal
+
+pub returns : goal.returns
+returns g c h _ _ _ _ _ _ _ _ om k ci s2 =
+    let law = g.met.E.Enc.contained in
+    let times_1 = times_held law c.times.ensures.covers c.times.ensures.narrow k ci in
+    let times_2 = times_held law c.times-2.ensures.covers c.times-2.ensures.narrow times_1 s2 in
+    plus_held law c.plus.ensures.covers c.plus.ensures.narrow om times_2

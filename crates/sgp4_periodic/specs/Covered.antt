@@ -1,0 +1,48 @@
+-- What an enclosed position covers, and its numerals.
+use Rattle.std.specs.Prelude.{Bool}
+use Rattle.exact.specs.Rational.{ℚ}
+use Rattle.fixed_iv.specs.Extent.{Extent}
+use Rattle.fixed_iv.specs.Place.{Place}
+use Rattle.fixed_iv.specs.Reach.{Reach, IsHeld, ◌+ᴿ◌, ◌-ᴿ◌, ◌*ᴿ◌, turned}
+use Rattle.fixed_iv.specs.declared.vec3.Vec3.{Vec3}
+use Rattle.sgp4_model.specs.Vector.{Vector}
+use Rattle.sgp4_periodic.specs.Corrected.{CorrectedReach}
+
+-- each coordinate is covered at the place
+pub record CoversPosition {A : Type 0} (covers : A → Place → ℚ → Type 0) (position : Vec3 A) (h : Place) (v : Vector) : Type 0 where
+  pub x : covers position.x h v.x
+  pub y : covers position.y h v.y
+  pub z : covers position.z h v.z
+
+-- numerals for each coordinate
+pub record PositionReach : Type 0 where
+  pub x : Reach
+  pub y : Reach
+  pub z : Reach
+
+-- each coordinate is covered at the place, and its enclosure is as its numerals say
+pub record IsHeldPosition {A : Type 0} (covers : A → Place → ℚ → Type 0) (extent : A → Extent) (told : Bool) (position : Vec3 A) (h : Place) (v : Vector) (r : PositionReach) : Type 0 where
+  pub x : IsHeld covers extent told position.x h v.x r.x
+  pub y : IsHeld covers extent told position.y h v.y r.y
+  pub z : IsHeld covers extent told position.z h v.z r.z
+
+module _ (r : CorrectedReach) where
+  -- the sine of the corrected argument of latitude
+  abbrev pub reach_sw : Reach
+  reach_sw = r.su *ᴿ turned r.du +ᴿ r.cu *ᴿ turned r.du
+
+  -- its cosine
+  abbrev pub reach_cw : Reach
+  reach_cw = r.cu *ᴿ turned r.du -ᴿ r.su *ᴿ turned r.du
+
+  -- the cosine of the inclination times the sine of the corrected argument of latitude
+  abbrev pub reach_tilted : Reach
+  reach_tilted = turned r.xinc *ᴿ reach_sw
+
+  -- the position at the corrected distance and angles
+  abbrev pub reach_position : PositionReach
+  reach_position = record {
+    x = r.mrt *ᴿ (turned r.xnode *ᴿ reach_cw -ᴿ turned r.xnode *ᴿ reach_tilted);
+    y = r.mrt *ᴿ (turned r.xnode *ᴿ reach_tilted +ᴿ turned r.xnode *ᴿ reach_cw);
+    z = r.mrt *ᴿ turned r.xinc *ᴿ reach_sw;
+  }

@@ -1,0 +1,6 @@
+pub mod Corrected
+pub mod Covered
+pub mod Ellipse
+pub mod Guards
+pub mod Numerals
+pub mod Unplaced

@@ -1,0 +1,80 @@
+#!/usr/bin/env python3
+"""Writes crates/rows_place/src/expected.rt: constants of element sets, and mean elements and positions at some times.
+
+All come from tools/equations/reference.py, which shares nothing with the program, to 50 digits; a number is given by the
+whole number of units of 2^-48 below it. Run it at the top of the repository: python3 tools/orbit/positions.py
+"""
+import sys
+import textwrap
+
+import mpmath as mp
+
+sys.path.insert(0, "tools/equations")
+from reference import Satellite  # noqa: E402
+
+mp.mp.dps = 50
+POWERS = [
+    "i c si e w0 o0 m0 bstar a eta con41 c5 xmcof xlcof aycof delmo sin_m0",
+    "n0 mdot wdot odot c1 c4 omgcof t2cof",
+    "d2 nodecf t3cof",
+    "d3 t4cof",
+    "d4 t5cof",
+]
+# motion (revolutions per day), eccentricity, inclination, node, argument of perigee, mean anomaly, B*
+SETS = [
+    ("15.48919393", "0.0006703", "51.6416", "247.4627", "130.5360", "325.0288", "0.00011606"),
+    ("14.19552001", "0.0011476", "98.7000", "12.3456", "88.1234", "271.9876", "0.000043"),
+    ("11.25000000", "0.1200000", "63.4349", "300.5000", "270.0000", "15.2500", "-0.001"),
+    ("15.70000000", "0.0000000", "0.0000", "0.0000", "0.0000", "0.0000", "0.001"),
+    ("7.00000000", "0.1999999", "174.9999", "359.9999", "180.0000", "90.0000", "0.0005"),
+    ("15.80000000", "0.0000100", "28.5000", "90.0000", "0.0000", "180.0000", "0.0002"),
+    ("12.62256100", "0.0000001", "99.0000", "180.0000", "45.0000", "45.0000", "0"),
+    ("6.50000000", "0.0500000", "55.0000", "222.2222", "333.3333", "11.1111", "-0.0000001"),
+    ("13.96000000", "0.0125000", "90.0000", "0.0001", "359.9999", "359.9999", "0.0001"),
+    ("15.20000000", "0.0150000", "97.5000", "120.0000", "200.0000", "160.0000", "0.00075"),
+    ("14.30000000", "0.0000999", "86.4000", "77.7000", "100.0000", "260.0000", "0.00003"),
+    ("14.30000000", "0.0001001", "86.4000", "77.7000", "100.0000", "260.0000", "0.00003"),
+    ("9.80000000", "0.1800000", "116.5651", "45.0000", "90.0000", "270.0000", "0.001"),
+    ("8.10000000", "0.2000000", "0.0001", "10.0000", "20.0000", "30.0000", "-0.001"),
+    ("12.00000000", "0.0800000", "175.0000", "200.0000", "120.0000", "0.0000", "0.00005"),
+    ("15.05000000", "0.0020000", "53.0000", "340.0000", "70.0000", "290.0000", "0.0009"),
+    ("13.40000000", "0.0330000", "30.0000", "60.0000", "135.0000", "225.0000", "0.00022"),
+    ("10.40000000", "0.1500000", "74.0000", "5.0000", "305.0000", "180.0000", "0.0003"),
+    ("15.60000000", "0.0040000", "144.0000", "150.0000", "250.0000", "100.0000", "-0.0005"),
+    ("14.80000000", "0.0100000", "82.5000", "275.0000", "15.0000", "345.0000", "0.0005"),
+]
+MINUTES = [-10080, -3333, -97, -1, 0, 1, 53, 1440, 5000, 10080]
+
+
+def units(x):
+    return int(mp.floor(x * 2**48))
+
+
+def lines(numbers, indent):
+    return textwrap.fill(", ".join(map(str, numbers)), 118, initial_indent=indent, subsequent_indent=indent)
+
+
+def main():
+    with open("crates/rows_place/src/expected.rt", "w") as out:
+        out.write("//! Expected values, made by tools/orbit/positions.py.\n\n")
+        out.write("/// Minutes from the epoch, mean elements and position: numbers of units of 2^-48, rounded down.\n")
+        out.write("pub type Row = (i64, [i64; 5], [i64; 3]);\n\n")
+        out.write("/// Constants of element sets, in the same units, and rows of each.\n")
+        out.write("#[rattlefmt::skip]\n")
+        out.write("pub const SETS: [([i64; 32], [Row; %d]); %d] = [\n" % (len(MINUTES), len(SETS)))
+        for numbers in SETS:
+            satellite = Satellite(*numbers)
+            assert satellite.perigee_km() >= 300 and satellite.period_minutes() < 225
+            kept = satellite.kept()
+            fields = [units(kept[name] * 16384**k) for k, names in enumerate(POWERS) for name in names.split()]
+            out.write("    ([\n%s,\n    ], [\n" % lines(fields, " " * 8))
+            for minutes in MINUTES:
+                _, mean, _, vector = satellite.at(minutes)
+                means = [units(mean[name]) for name in ("am", "em", "ml", "wm", "om")]
+                position = [units(vector[name]) for name in "xyz"]
+                out.write("        (%d, %s,\n            %s),\n" % (minutes, means, position))
+            out.write("    ]),\n")
+        out.write("];\n")
+
+
+main()
