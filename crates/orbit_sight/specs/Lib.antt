@@ -1,3 +1,4 @@
 pub mod Cell
+pub mod Craft
 pub mod DayReach
 pub mod Moment

@@ -1,0 +1,75 @@
+//! A satellite, ready to be placed.
+ghost use Rattle.std.specs.Prelude.{◌≡◌, IfOk, IfErr, IfSome, IfNone, Err};
+
+use crate::moment::time_from;
+use elements::{Elements, Instant};
+use enc_plain::Plain;
+use fixed_iv::{Enc, Iv, Vec3};
+use sgp4_drag::secular;
+use sgp4_init::prepare;
+use sgp4_periodic::place;
+use sgp4_shape::{Consts, SatFault};
+use std::marker::Model;
+
+/// A satellite that is accepted: its element set, with the constants of its orbit.
+pub struct Craft {
+    set: Elements,
+    consts: Consts<Plain>,
+}
+
+impl Model for Craft {
+    ghost use Rattle.elements.specs.Elements.{ElementsRecord};
+    ghost use Rattle.orbit_sight.specs.Craft.{IsCraft};
+
+    ghost Value = { ElementsRecord };
+
+    ghost view = { λ craft. craft.set };
+
+    ghost invariant = { λ craft. IsCraft craft.set craft.consts };
+}
+
+impl Craft {
+    ghost use Rattle.elements.specs.Elements.{record_of_elements};
+    ghost use Rattle.orbit_sight.specs.Craft.{HoldsVector, IsBoundedVector, IsUnknownAt};
+    ghost use Rattle.sgp4_model.specs.PositionAt.{IsPositionAt};
+    ghost use Rattle.sgp4_model.specs.Time.{instant_of_nanos};
+    ghost use Rattle.sgp4_model.specs.Vector.{Vector};
+    ghost use Rattle.sgp4_motion.specs.Fate.{IsNearEarth, IsOrdinary, IsRefusedExactly, MayRefuseSet};
+
+    /// The satellite of an element set, or why the set is refused.
+    pub fn make(set: &Elements) -> Result<Craft, SatFault>
+        ensures made { IfOk result (λ craft. craft ≡ set.now) }
+        ensures accepted { IfOk result (λ _. IsOrdinary (record_of_elements set.now) × IsNearEarth (record_of_elements set.now)) }
+        ensures exact { IsRefusedExactly (record_of_elements set.now) (λ fault. result ≡ Err fault) }
+        ensures refused { IfErr result (MayRefuseSet (record_of_elements set.now)) }
+    {
+        match prepare(set) {
+            Ok(consts) => Ok(Craft { set: *set, consts }),
+            Err(fault) => Err(fault),
+        }
+    }
+
+    /// Bounds of the position at an instant, in Earth radii, in the frame of the true equator and mean equinox (TEME). None
+    /// where the enclosures are too wide to certify that there is a position, or have no bounds.
+    pub fn bounds_at(&self, at: Instant) -> Option<Vec3<Iv>>
+        ensures holds { IfSome result (λ v. (r : Vector) → IsPositionAt (record_of_elements self.now) (instant_of_nanos at) r → HoldsVector v r) }
+        ensures bounded { IfSome result IsBoundedVector }
+        ensures none { IfNone result (IsUnknownAt self.now at) }
+    {
+        let time = Plain::constant(time_from(self.set.epoch(), at));
+        let mean = secular(&self.consts, time)?;
+        let position = place(&self.consts, &mean)?;
+        bounded(bounds_of(&position))
+    }
+}
+
+/// The bounds of three enclosures.
+fn bounds_of(position: &Vec3<Plain>) -> Vec3<Iv>
+    ensures { result ≡ record { x = position.now.x.iv; y = position.now.y.iv; z = position.now.z.iv } }
+{
+    Vec3 {
+        x: position.x.bounds(),
+        y: position.y.bounds(),
+        z: position.z.bounds(),
+    }
+}

@@ -1,0 +1,84 @@
+-- What is found of a satellite of a catalogue at an instant, and what that says of its position.
+use Rattle.std.specs.Prelude.{◌≡◌, ℕ, ℤ, false, List, Some}
+use Rattle.exact.specs.Rational.{ℚ}
+use Rattle.catalogue.specs.Entries.{entry_with, has_number}
+use Rattle.catalogue.specs.declared.entry.Entry.{Entry}
+use Rattle.elements.specs.Elements.{ElementsRecord, record_of_elements}
+use Rattle.orbit_sight.specs.Craft.{IsUnknownAt}
+use Rattle.pass_text.specs.LocateLayout.{EdgeRecord, FoundRecord, LocateRecord, missing, refused, inside, unplaced}
+use Rattle.sgp4_model.specs.PositionAt.{IsPositionAt}
+use Rattle.sgp4_model.specs.Time.{instant_of_nanos}
+use Rattle.sgp4_model.specs.Vector.{Vector}
+use Rattle.sgp4_motion.specs.Fate.{MayAccept, MayRefuse}
+use Rattle.sgp4_shape.specs.declared.fault.SatFault.{SatFault}
+use Rattle.sat_locate.specs.Edge.{IsBetween}
+use Rattle.sat_locate.specs.declared.edge.Edge.{Edge}
+use Rattle.sat_locate.specs.declared.found.Found.{Found}
+use Rattle.sat_locate.specs.declared.found.Found.TheVariants.{Missing, Refused, Inside, Unplaced}
+use Rattle.sat_locate.specs.declared.found.LocAnswer.{LocAnswer}
+
+-- the plain record of an answer
+abbrev pub edge_record : Edge → EdgeRecord
+edge_record edge = record { low = edge.low; high = edge.high }
+
+abbrev pub found_record : Found → FoundRecord
+found_record Missing = missing
+found_record (Refused fault name) = refused fault name
+found_record (Inside name x y z) = inside name (edge_record x) (edge_record y) (edge_record z)
+found_record (Unplaced name) = unplaced name
+
+abbrev pub locate_record : LocAnswer → LocateRecord
+locate_record answer = record { at = answer.at; number = answer.number; found = found_record answer.found }
+
+-- a coordinate lies between its bounds
+abbrev pub IsInEdge : EdgeRecord → ℚ → Type 0
+IsInEdge edge x = IsBetween edge.low edge.high x
+
+-- each coordinate of each position of the set at an instant lies between its bounds
+pub record IsInside (set : ElementsRecord) (at : ℤ) (x y z : EdgeRecord) : Type 0 where
+  pub x_between : (r : Vector) → IsPositionAt (record_of_elements set) (instant_of_nanos at) r → IsInEdge x r.x
+  pub y_between : (r : Vector) → IsPositionAt (record_of_elements set) (instant_of_nanos at) r → IsInEdge y r.y
+  pub z_between : (r : Vector) → IsPositionAt (record_of_elements set) (instant_of_nanos at) r → IsInEdge z r.z
+
+-- the satellite with the number has this name, and its element set is such
+pub record IsOf (entries : List Entry) (number : ℕ) (name : List ℕ) (holds : ElementsRecord → Type 0) : Type 0 where
+  pub entry : Entry
+  pub entry_is : entry_with number entries ≡ Some entry
+  pub name_is : name ≡ entry.name
+  pub holds_it : holds entry.elements
+
+-- the set may be refused at the instant for this fault
+abbrev pub IsRefusedAt : ℤ → SatFault → ElementsRecord → Type 0
+IsRefusedAt at fault set = MayRefuse (record_of_elements set) at at fault
+
+-- the set may be accepted at the instant, and is inside these bounds
+pub record IsPlacedAt (at : ℤ) (x y z : EdgeRecord) (set : ElementsRecord) : Type 0 where
+  pub accepted : MayAccept (record_of_elements set) at at
+  pub bounds : IsInside set at x y z
+
+-- the set may be accepted at the instant, and bounds of its position are not known
+pub record IsUnplacedAt (at : ℤ) (set : ElementsRecord) : Type 0 where
+  pub accepted : MayAccept (record_of_elements set) at at
+  pub unknown : IsUnknownAt set at
+
+-- what was found of a set with a name: not that it is missing
+abbrev pub IsFoundFor : ElementsRecord → List ℕ → ℤ → FoundRecord → Type 0
+IsFoundFor set name at missing = ⊥
+IsFoundFor set name at (refused fault given) = (given ≡ name) × IsRefusedAt at fault set
+IsFoundFor set name at (inside given x y z) = (given ≡ name) × IsPlacedAt at x y z set
+IsFoundFor set name at (unplaced given) = (given ≡ name) × IsUnplacedAt at set
+
+-- What was found of the satellite with a number at an instant: there is none; its set may be refused, for this fault; it may
+-- be accepted, and each position of it lies between the bounds; or it may be accepted, and no bounds are known. So it is
+-- refused as far if and only if the instant is more than seven days from the epoch and the set has no other fault.
+abbrev pub IsFoundOf : List Entry → ℕ → ℤ → FoundRecord → Type 0
+IsFoundOf entries number at missing = has_number number entries ≡ false
+IsFoundOf entries number at (refused fault name) = IsOf entries number name (IsRefusedAt at fault)
+IsFoundOf entries number at (inside name x y z) = IsOf entries number name (IsPlacedAt at x y z)
+IsFoundOf entries number at (unplaced name) = IsOf entries number name (IsUnplacedAt at)
+
+-- the answer is for this number and this instant
+pub record IsAnswerFor (entries : List Entry) (number : ℕ) (at : ℤ) (answer : LocateRecord) : Type 0 where
+  pub at_is : answer.at ≡ at
+  pub number_is : answer.number ≡ number
+  pub found : IsFoundOf entries number at answer.found

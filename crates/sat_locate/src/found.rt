@@ -1,0 +1,30 @@
+//! What is found of a satellite.
+use crate::edge::Edge;
+use elements::{Instant, Text};
+use sgp4_shape::SatFault;
+
+/// What is found of a satellite at an instant.
+#[derive(Drop)]
+pub enum Found {
+    /// No satellite has the number.
+    Missing,
+    /// Its element set is refused.
+    Refused { fault: SatFault, name: Text },
+    /// Each coordinate of its position lies between two bounds.
+    Inside {
+        name: Text,
+        x: Edge,
+        y: Edge,
+        z: Edge,
+    },
+    /// No bounds of its position are known.
+    Unplaced { name: Text },
+}
+
+/// The answer for a catalogue number and an instant.
+#[derive(Drop)]
+pub struct LocAnswer {
+    pub at: Instant,
+    pub number: u32,
+    pub found: Found,
+}
