@@ -1,0 +1,5 @@
+//! The constants of an element set, enclosed.
+#![tactic(auto)]
+
+mod numbers;
+mod size;
