@@ -1,2 +1,4 @@
+mod DensityLemmas
+mod EquationLemmas
 mod NumberLemmas
 mod SizeLemmas

@@ -1,5 +1,5 @@
 -- Given numbers, enclosed.
-use Rattle.std.proofs.Common.{arith, ◌≡◌, refl, ℕ, zero, suc, T, Bool, ℤ, pos, negsuc, ◌-ℤ◌, ◌<ℤ◌, unsigned_abs}
+use Rattle.std.proofs.Common.{arith, refl, ℕ, zero, suc, T, Bool, ℤ, pos, negsuc, ◌-ℤ◌, ◌<ℤ◌, unsigned_abs}
 use Rattle.std.proofs.lemmas.Int.{ints}
 use lib.Signed.{non_neg}
 use Rattle.exact.specs.Rational.{ℚ, ratio}
@@ -8,7 +8,7 @@ use Rattle.fixed_iv.specs.Extent.{Extent}
 use Rattle.fixed_iv.specs.Holds.{Holds, IsTightest}
 use Rattle.fixed_iv.specs.Narrow.{IsNarrowConstant}
 use Rattle.fixed_iv.specs.Place.{Place}
-use Rattle.fixed_iv.specs.Reach.{IsHeld, given, is_small, outer, reach_of, units_above, units_below}
+use Rattle.fixed_iv.specs.Reach.{IsHeld, given, units_above, units_below}
 use Rattle.fixed_iv.specs.Results.{IsRatio}
 use Rattle.fixed_iv.specs.declared.iv.Iv.{Iv}
 use Rattle.fixed_iv.proofs.Held.{constant_held}

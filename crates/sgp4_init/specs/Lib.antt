@@ -1,1 +1,3 @@
+pub mod HeldDensity
+pub mod HighPerigee
 pub mod Numerals

@@ -4,11 +4,54 @@ ghost use Rattle.exact.specs.Rational.{ℚ, ◌-ℚ◌, ◌*ℚ◌, ◌/ℚ◌, 
 ghost use Rattle.fixed_iv.specs.Place.{Place};
 ghost use Rattle.fixed_iv.specs.Reach.{Reach, IsHeld, ◌-ᴿ◌, ◌*ᴿ◌, ◌/ᴿ◌};
 ghost use Rattle.fixed_iv.specs.ReachRoots.{rooted};
+ghost use Rattle.sgp4_model.specs.Density.{DensityRecord, IsDensityTerms};
+ghost use Rattle.sgp4_model.specs.MeanMotion.{MotionRecord, RecoversMotion};
 ghost use Rattle.sgp4_model.specs.Root.{IsSqrt};
+ghost use Rattle.sgp4_motion.specs.HeldMotion.{IsHeldMotion, MotionReach};
+ghost use Rattle.sgp4_init.specs.HeldDensity.{IsHeldDensity, reach_density};
+ghost use Rattle.sgp4_init.specs.HighPerigee.{HasHighPerigee};
 ghost use Rattle.sgp4_init.specs.Numerals.{of_ratio};
 
 use crate::numbers::number;
+use crate::size::size;
 use fixed_iv::Enc;
+use sgp4_motion::Recovered;
+
+/// The terms of the density of the air that are used again. Lengths are in Earth radii.
+#[derive(Clone, Copy)]
+pub(crate) struct Density<E> {
+    /// 1 over the semimajor axis less s.
+    pub(crate) xi: E,
+    /// The eccentricity as drag sees it.
+    pub(crate) eta: E,
+    /// xi over psi.
+    pub(crate) xp: E,
+    /// (q - s)^4 xi^4.
+    pub(crate) coef: E,
+    /// The same over psi to the power 3.5.
+    pub(crate) coef1: E,
+}
+
+/// The terms of the density. Where the perigee is high, xi over psi is (a - s) over (a - s + e a) and over the radius of the
+/// perigee less s.
+pub(crate) fn density_terms<E: Enc>(motion: &Recovered<E>) -> Density<E>
+    ensures { (h : Place) (m : MotionRecord) (d : DensityRecord) (r : MotionReach) → RecoversMotion m → HasHighPerigee m → IsDensityTerms m d → IsHeldMotion E.covers E.extent E.tells motion.now h m r → IsHeldDensity E.covers E.extent E.tells result h d (reach_density r) }
+{
+    let above = above_base(motion.a);
+    let ea = motion.e.times(motion.a);
+    let eta = ea.divided(above);
+    let xi = number::<E>(1, 1).divided(above);
+    let share = above.divided(above.plus(ea));
+    let xp = share.divided(above_base(motion.rp));
+    let psi = size(less_square(eta));
+    Density {
+        xi,
+        eta,
+        xp,
+        coef: fourth_power(xi),
+        coef1: fourth_power(xp).times(over_root(psi)),
+    }
+}
 
 /// A radius less the parameter s of the density.
 pub(crate) fn above_base<E: Enc>(radius: E) -> E

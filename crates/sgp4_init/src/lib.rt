@@ -1,9 +1,9 @@
 //! The constants of an element set, enclosed.
 #![tactic(auto)]
 
-mod air;
 mod brackets;
-mod factors;
+mod density;
+mod drag;
 mod numbers;
 mod rates;
 mod series;
