@@ -20,7 +20,7 @@ base = ratio (pos 6456135) 6378135
 abbrev pub part : ℚ
 part = ratio (pos 42000) 6378135
 
-base_is : one_ℚ +ℚ density_base_km /ℚ earth_radius_km ≡ base
+pub base_is : one_ℚ +ℚ density_base_km /ℚ earth_radius_km ≡ base
 base_is = ap (λ t. one_ℚ +ℚ density_base_km *ℚ t) radius_inverse ∙ ring [] (search reads depth 90) tt
 
 part_is : (density_top_km -ℚ density_base_km) /ℚ earth_radius_km ≡ part

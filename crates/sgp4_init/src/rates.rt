@@ -3,10 +3,49 @@ ghost use Rattle.std.specs.Prelude.{negsuc, pos, ◌≡◌};
 ghost use Rattle.exact.specs.Rational.{ℚ, ◌+ℚ◌, ◌-ℚ◌, ◌*ℚ◌, ◌/ℚ◌, ratio, zero_ℚ};
 ghost use Rattle.fixed_iv.specs.Place.{Place};
 ghost use Rattle.fixed_iv.specs.Reach.{Reach, IsHeld, ◌+ᴿ◌, ◌-ᴿ◌, ◌*ᴿ◌, ◌/ᴿ◌};
+ghost use Rattle.sgp4_model.specs.MeanMotion.{MotionRecord};
+ghost use Rattle.sgp4_model.specs.Rates.{IsMeanAnomalyRate, IsNodeRate, IsOblatenessFactors, IsPerigeeRate, RatesRecord};
+ghost use Rattle.sgp4_motion.specs.HeldMotion.{IsHeldMotion, MotionReach};
+ghost use Rattle.sgp4_init.specs.HeldRates.{IsHeldRates, reach_rates};
 ghost use Rattle.sgp4_init.specs.Numerals.{of_ratio};
 
 use crate::numbers::number;
 use fixed_iv::Enc;
+use sgp4_motion::Recovered;
+
+/// The rates that are used again, per 16,384 minutes.
+#[derive(Clone, Copy)]
+pub(crate) struct Rates<E> {
+    /// The first common factor, 1.5 J2 n0 / p^2.
+    pub(crate) w1: E,
+    /// The rate of the mean anomaly.
+    pub(crate) mdot: E,
+    /// The rate of the argument of perigee.
+    pub(crate) wdot: E,
+    /// The rate of the node.
+    pub(crate) odot: E,
+}
+
+/// The secular rates.
+pub(crate) fn secular_rates<E: Enc>(motion: &Recovered<E>) -> Rates<E>
+    ensures { (h : Place) (m : MotionRecord) (f : RatesRecord) (r : MotionReach) → IsOblatenessFactors m f → IsMeanAnomalyRate m f → IsPerigeeRate m f → IsNodeRate m f → IsHeldMotion E.covers E.extent E.tells motion.now h m r → IsHeldRates E.covers E.extent E.tells result h f (reach_rates r) }
+{
+    let m = motion;
+    let ip2 = inverse_square(m.p);
+    let w1 = first_factor(m.n0, ip2);
+    let w2 = second_factor(w1, ip2);
+    let w3 = third_factor(m.n0, ip2);
+    let c2 = m.c.times(m.c);
+    let of_anomaly = in_squares(number(13, 1), number(78, 1), number(137, 1), c2);
+    let second = in_squares(number(7, 1), number(114, 1), number(395, 1), c2);
+    let third = in_squares(number(3, 1), number(36, 1), number(49, 1), c2);
+    Rates {
+        w1,
+        mdot: mean_anomaly_rate(m.n0, w1, w2, m.b0, m.con41, of_anomaly),
+        wdot: perigee_rate(w1, w2, w3, m.con42, second, third),
+        odot: node_rate(w1, w2, w3, m.c, c2),
+    }
+}
 
 /// 1 over the square.
 pub(crate) fn inverse_square<E: Enc>(p: E) -> E

@@ -3,10 +3,52 @@ ghost use Rattle.std.specs.Prelude.{pos};
 ghost use Rattle.exact.specs.Rational.{ℚ, ◌+ℚ◌, ◌*ℚ◌, ratio};
 ghost use Rattle.fixed_iv.specs.Place.{Place};
 ghost use Rattle.fixed_iv.specs.Reach.{Reach, IsHeld, ◌+ᴿ◌, ◌*ᴿ◌};
+ghost use Rattle.sgp4_model.specs.Density.{DensityRecord, IsDensityTerms};
+ghost use Rattle.sgp4_model.specs.Drag.{DragRecord};
+ghost use Rattle.sgp4_model.specs.HigherDrag.{HigherDragRecord, IsHigherDragTerms};
+ghost use Rattle.sgp4_model.specs.MeanMotion.{MotionRecord};
+ghost use Rattle.sgp4_shape.specs.Covering.{unit_minutes};
+ghost use Rattle.sgp4_init.specs.HeldSeries.{IsHeldSeries, reach_series};
 ghost use Rattle.sgp4_init.specs.Numerals.{of_ratio};
 
 use crate::numbers::number;
 use fixed_iv::Enc;
+
+/// The drag terms of higher order, in units of 16,384 minutes.
+#[derive(Clone, Copy)]
+pub(crate) struct Series<E> {
+    /// D2.
+    pub(crate) d2: E,
+    /// D3.
+    pub(crate) d3: E,
+    /// D4.
+    pub(crate) d4: E,
+    /// The term of the mean longitude with the cube of the time.
+    pub(crate) t3cof: E,
+    /// The term of the mean longitude with the fourth power of the time.
+    pub(crate) t4cof: E,
+    /// The term of the mean longitude with the fifth power of the time.
+    pub(crate) t5cof: E,
+}
+
+/// The drag terms of higher order, of the semimajor axis, xi and C1.
+pub(crate) fn series_terms<E: Enc>(a: E, xi: E, c1: E) -> Series<E>
+    ensures { (h : Place) (m : MotionRecord) (d : DensityRecord) (g : DragRecord) (f : HigherDragRecord) (r_a r_xi r_c1 : Reach) → IsDensityTerms m d → IsHigherDragTerms m d g f → IsHeld E.covers E.extent E.tells a h m.a r_a → IsHeld E.covers E.extent E.tells xi h d.xi r_xi → IsHeld E.covers E.extent E.tells c1 h (unit_minutes 1 *ℚ g.c1) r_c1 → IsHeldSeries E.covers E.extent E.tells result h f (reach_series r_a r_xi r_c1) }
+{
+    let axi = axis_times_xi(xi);
+    let d2 = second_term(axi, c1);
+    let w = common_factor(d2, xi, c1);
+    let d3 = third_term(a, w);
+    let d4 = fourth_term(w, axi, a, c1);
+    Series {
+        d2,
+        d3,
+        d4,
+        t3cof: longitude_cube(d2, c1),
+        t4cof: longitude_fourth(d2, d3, c1),
+        t5cof: longitude_fifth(d2, d3, d4, c1),
+    }
+}
 
 /// The semimajor axis times xi, which is 1 + s xi.
 pub(crate) fn axis_times_xi<E: Enc>(xi: E) -> E
