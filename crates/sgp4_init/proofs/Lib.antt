@@ -1,6 +1,7 @@
 mod DensityLemmas
 mod DragLemmas
 mod EquationLemmas
+mod GivenLemmas
 mod NumberLemmas
 mod RateLemmas
 mod SeriesLemmas

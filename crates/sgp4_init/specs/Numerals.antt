@@ -1,8 +1,8 @@
 -- What numerals say of given numbers.
-use Rattle.std.specs.Prelude.{ℕ, ℤ, ltb, pred, ◌&&◌, ◌-ℤ◌, unsigned_abs}
+use Rattle.std.specs.Prelude.{ℕ, ℤ, ltb, negsuc, pos, pred, ◌&&◌, ◌-ℤ◌, unsigned_abs}
 use Rattle.exact.proofs.Intervals.{just}
 use Rattle.exact.proofs.RationalRing.{Coef}
-use Rattle.fixed_iv.specs.Reach.{Reach, above_0, is_small, lowest, outer, reach_of, units_above, units_below}
+use Rattle.fixed_iv.specs.Reach.{Reach, above_0, from_to, is_small, lowest, outer, reach_of, units_above, units_below}
 
 -- the fraction n / d
 abbrev pub fraction : ℤ → ℤ → Coef
@@ -21,3 +21,19 @@ of_ratio n d =
 -- of the absolute value of a number whose bounds are above 0
 unfoldable pub sized : Reach → Reach
 sized r = record { ok = r.ok && ltb 0 (above_0 (lowest r)); range = r.range; spread = r.spread }
+
+-- of an angle from -360 to 360 degrees, in radians
+abbrev pub given_angle : Reach
+given_angle = from_to (negsuc 6283) (pos 6284) 1000 10
+
+-- of a drag term of at most 0.001 in size
+abbrev pub given_drag : Reach
+given_drag = from_to (negsuc 0) (pos 1) 1000 1
+
+-- of -2 J3 / J2 times it
+abbrev pub given_perigee_drag : Reach
+given_perigee_drag = from_to (negsuc 4) (pos 5) 1000000 1
+
+-- of it over an eccentricity above 0.0001
+abbrev pub given_drag_over_eccentricity : Reach
+given_drag_over_eccentricity = from_to (negsuc 9) (pos 10) 1 1

@@ -4,6 +4,7 @@
 mod brackets;
 mod density;
 mod drag;
+mod given;
 mod numbers;
 mod rates;
 mod series;
