@@ -26,6 +26,9 @@ base_is = ap (λ t. one_ℚ +ℚ density_base_km *ℚ t) radius_inverse ∙ ring
 part_is : (density_top_km -ℚ density_base_km) /ℚ earth_radius_km ≡ part
 part_is = ap (λ t. (density_top_km -ℚ density_base_km) *ℚ t) radius_inverse ∙ ring [] (search reads depth 90) tt
 
+pub coef_power : (m : MotionRecord) (d : DensityRecord) → IsDensityTerms m d → part *ℚ d.xi *ℚ (part *ℚ d.xi) *ℚ (part *ℚ d.xi *ℚ (part *ℚ d.xi)) ≡ d.coef
+coef_power m d terms = ring (d.xi ∷ []) {y = part ^ℚ 4 *ℚ d.xi ^ℚ 4} (search reads depth 90) tt ∙ ap (λ t. t *ℚ d.xi ^ℚ 4) (sym (terms.qs_is ∙ ap (λ t. t ^ℚ 4) part_is)) ∙ sym terms.coef_is
+
 module _ (m : MotionRecord) (d : DensityRecord) (recovers : RecoversMotion m) (high : HasHighPerigee m) (terms : IsDensityTerms m d) where
   abbrev above : ℚ
   above = m.a -ℚ base
@@ -115,11 +118,8 @@ module _ (m : MotionRecord) (d : DensityRecord) (recovers : RecoversMotion m) (h
           (search reads depth 90) tt
           ∙ xi_is
 
-  coef_power : part *ℚ d.xi *ℚ (part *ℚ d.xi) *ℚ (part *ℚ d.xi *ℚ (part *ℚ d.xi)) ≡ d.coef
-  coef_power = ring (d.xi ∷ []) {y = part ^ℚ 4 *ℚ d.xi ^ℚ 4} (search reads depth 90) tt ∙ ap (λ t. t *ℚ d.xi ^ℚ 4) (sym (terms.qs_is ∙ ap (λ t. t ^ℚ 4) part_is)) ∙ sym terms.coef_is
-
   pub coef_is : part *ℚ d.xi *ℚ (part *ℚ d.xi) *ℚ (part *ℚ d.xi *ℚ (part *ℚ d.xi)) ≡ d.coef
-  coef_is = coef_power
+  coef_is = coef_power m d terms
 
   divisor_inverse : inverse (d.psi ^ℚ 3 *ℚ d.root_of_psi) ≡ inverse d.psi ^ℚ 3 *ℚ inverse d.root_of_psi
   divisor_inverse =
@@ -135,7 +135,7 @@ module _ (m : MotionRecord) (d : DensityRecord) (recovers : RecoversMotion m) (h
       {y = part *ℚ d.xi *ℚ (part *ℚ d.xi) *ℚ (part *ℚ d.xi *ℚ (part *ℚ d.xi)) *ℚ (inverse d.psi ^ℚ 3 *ℚ inverse d.root_of_psi)}
       (none (mul_inverse d.psi (not_zero psi_positive)) (part ^ℚ 4 *ℚ d.xi ^ℚ 4 *ℚ inverse d.psi ^ℚ 3 *ℚ inverse d.root_of_psi))
       (search reads depth 90) tt
-      ∙ ap (λ t. t *ℚ (inverse d.psi ^ℚ 3 *ℚ inverse d.root_of_psi)) coef_power
+      ∙ ap (λ t. t *ℚ (inverse d.psi ^ℚ 3 *ℚ inverse d.root_of_psi)) coef_is
       ∙ ap (λ t. d.coef *ℚ t) (sym divisor_inverse)
       ∙ sym terms.coef1_is
 

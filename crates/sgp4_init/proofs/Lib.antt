@@ -1,7 +1,9 @@
+mod CoefficientLemmas
 mod DensityLemmas
 mod DragLemmas
 mod EquationLemmas
 mod GivenLemmas
+mod InitialLemmas
 mod NumberLemmas
 mod RateLemmas
 mod SeriesLemmas

@@ -1,5 +1,8 @@
+pub mod HeldCoefficients
 pub mod HeldDensity
 pub mod HeldDrag
+pub mod HeldEpoch
+pub mod HeldInitial
 pub mod HeldRates
 pub mod HeldSeries
 pub mod HighPerigee

@@ -1,6 +1,6 @@
 -- What numerals say of given numbers.
 use Rattle.std.specs.Prelude.{ℕ, ℤ, ltb, negsuc, pos, pred, ◌&&◌, ◌-ℤ◌, unsigned_abs}
-use Rattle.exact.proofs.Intervals.{just}
+use Rattle.exact.proofs.Intervals.{coef_max, coef_min, just}
 use Rattle.exact.proofs.RationalRing.{Coef}
 use Rattle.fixed_iv.specs.Reach.{Reach, above_0, from_to, is_small, lowest, outer, reach_of, units_above, units_below}
 
@@ -37,3 +37,9 @@ given_perigee_drag = from_to (negsuc 4) (pos 5) 1000000 1
 -- of it over an eccentricity above 0.0001
 abbrev pub given_drag_over_eccentricity : Reach
 given_drag_over_eccentricity = from_to (negsuc 9) (pos 10) 1 1
+
+-- of a number that these numerals are of, or of 0
+unfoldable pub or_zero : Reach → Reach
+or_zero r =
+    let none : Coef = record { num = pos 0; under = 0 } in
+    record { ok = r.ok; range = record { low = coef_min r.range.low none; high = coef_max r.range.high none }; spread = r.spread }

@@ -2,11 +2,17 @@
 #![tactic(auto)]
 
 mod brackets;
+mod coefficients;
 mod density;
 mod drag;
+mod epoch;
+mod gathered;
 mod given;
+mod initial;
 mod numbers;
 mod rates;
 mod series;
 mod size;
 mod terms;
+
+pub use initial::prepare;

@@ -11,5 +11,5 @@ over-requires g c = eccentric_above c.requires.eccentric
 pub returns : goal.returns
 unfolding given
 returns g c h =
-    let number = one_number _ c.over.ensures (ratio_inside c.requires.drag c.requires.eccentric) tt in
+    let number = one_number _ c.over.ensures (ratio_inside _ c.requires.drag c.requires.eccentric) tt in
     within given_drag_over_eccentricity (constant_held c.constant.ensures.covers c.constant.ensures.narrow number) tt

@@ -8,5 +8,5 @@ use Rattle.sgp4_init.proofs.given.drag_term.Goals as goal
 pub returns : goal.returns
 unfolding given
 returns g c h =
-    let number = one_number _ c.scaled.ensures (drag_inside c.requires) tt in
+    let number = one_number _ c.scaled.ensures (drag_inside _ c.requires) tt in
     within given_drag (held_at (once_is _) (constant_held c.constant.ensures.covers c.constant.ensures.narrow number)) tt

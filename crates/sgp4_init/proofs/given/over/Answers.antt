@@ -1,4 +1,4 @@
-use Rattle.std.proofs.Common.{ap, pos, ◌∙◌}
+use Rattle.std.proofs.Common.{ap, pos, ◌^◌, ◌∙◌}
 use Rattle.decimals.proofs.UnitsLemmas.{ten_pow_fits, ten_pow_pos}
 use Rattle.sgp4_motion.proofs.GivenLemmas.{digits_in_code, positive_digits}
 use Rattle.sgp4_init.proofs.GivenLemmas.{over_is}

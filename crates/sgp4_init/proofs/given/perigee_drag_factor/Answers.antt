@@ -8,5 +8,5 @@ use Rattle.sgp4_init.proofs.given.perigee_drag_factor.Goals as goal
 pub returns : goal.returns
 unfolding given
 returns g c h =
-    let number = one_number _ c.scaled.ensures (perigee_drag_inside c.requires) tt in
+    let number = one_number _ c.scaled.ensures (perigee_drag_inside _ c.requires) tt in
     within given_perigee_drag (constant_held c.constant.ensures.covers c.constant.ensures.narrow number) tt
