@@ -38,7 +38,7 @@ digits_positive z s h =
     below : z ≤ℤ pos 0 → of_int z ≤ℚ zero_ℚ
     below q = rw (of_int_is (pos 0)) at (of_int_le q)
 
-over_ratio : (a z : ℤ) (m s : ℕ) → 0 < m → 0 < s → pos 0 <ℤ z → ratio (a *ℤ pos s) (unsigned_abs (z *ℤ pos m)) ≡ ratio a m /ℚ ratio z s
+pub over_ratio : (a z : ℤ) (m s : ℕ) → 0 < m → 0 < s → pos 0 <ℤ z → ratio (a *ℤ pos s) (unsigned_abs (z *ℤ pos m)) ≡ ratio a m /ℚ ratio z s
 over_ratio a (pos (suc n)) m s h k p =
     let e : suc n * m ≡ m * suc n = omega arith in
     rw e (ratio_product a (pos s) m (suc n) h (omega arith) ∙ ap (λ t. ratio a m *ℚ t) (ratio_inverse n s k))

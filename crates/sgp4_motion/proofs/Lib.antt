@@ -1,8 +1,8 @@
-mod FaultLemmas
-mod GivenLemmas
-mod InputLemmas
-mod LimitLemmas
-mod LineLemmas
-mod MotionLemmas
-mod NearEarthLemmas
-mod RecoveryLemmas
+pub mod FaultLemmas
+pub mod GivenLemmas
+pub mod InputLemmas
+pub mod LimitLemmas
+pub mod LineLemmas
+pub mod MotionLemmas
+pub mod NearEarthLemmas
+pub mod RecoveryLemmas

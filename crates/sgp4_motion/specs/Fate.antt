@@ -26,6 +26,11 @@ pub record IsOrdinary (set : SetRecord) : Type 0 where
   pub not_inclined : ¬ IsInclined set
   pub not_dragged : ¬ IsDragged set
 
+-- the mean motion is between 6.3 and 17 revolutions a day
+pub record IsBetweenLimits (set : SetRecord) : Type 0 where
+  pub above : decimal 63 1 <ℚ set.motion
+  pub below : set.motion <ℚ whole 17
+
 -- the instant, in nanoseconds from 2000-01-01T12:00:00 UTC, is more than 604,800 seconds from the epoch
 abbrev pub IsAway : SetRecord → ℤ → Type 0
 IsAway set instant = 604800 * 10 ^ 9 < unsigned_abs (instant -ℤ set.epoch)

@@ -3,8 +3,8 @@ ghost use Rattle.std.specs.Prelude.{◌↔◌, IfNone, IfSome, IsTrue};
 ghost use Rattle.decimals.specs.Decimal.{value};
 ghost use Rattle.elements.specs.Elements.{IsElements, record_of_elements};
 ghost use Rattle.exact.specs.Rational.{◌<ℚ◌, abs_ℚ};
-ghost use Rattle.sgp4_model.specs.Numerals.{decimal, whole};
-ghost use Rattle.sgp4_motion.specs.Fate.{IsOrdinary, MayRefuseSet};
+ghost use Rattle.sgp4_model.specs.Numerals.{decimal};
+ghost use Rattle.sgp4_motion.specs.Fate.{IsBetweenLimits, IsOrdinary, MayRefuseSet};
 
 use elements::{Decimal, Elements};
 use sgp4_shape::SatFault;
@@ -14,7 +14,7 @@ pub(crate) fn shown_fault(set: &Elements) -> Option<SatFault>
     ensures some { IfSome result (MayRefuseSet (record_of_elements set.now)) }
     ensures elements { IsElements set.now }
     ensures ordinary { IfNone result (IsOrdinary (record_of_elements set.now)) }
-    ensures motion { IfNone result ((decimal 63 1 <ℚ (record_of_elements set.now).motion) × ((record_of_elements set.now).motion <ℚ whole 17)) }
+    ensures between { IfNone result (IsBetweenLimits (record_of_elements set.now)) }
 {
     if Decimal::of_scaled(2, 1).is_below(set.ecc()) {
         return Some(SatFault::Eccentric);

@@ -8,7 +8,7 @@ use elements::Decimal;
 use fixed_iv::Iv;
 
 /// A decimal times `num / den`.
-pub(crate) fn scaled(number: Decimal, num: u32, den: u32) -> Iv
+pub fn scaled(number: Decimal, num: u32, den: u32) -> Iv
     requires { 0 < den }
     ensures { IsTightest (λ x. x ≡ value number *ℚ ratio (pos num) den) result }
 {

@@ -10,5 +10,6 @@ mod motion;
 mod recovered;
 mod recovery;
 
+pub use given::scaled;
 pub use motion::recover_motion;
 pub use recovered::Recovered;

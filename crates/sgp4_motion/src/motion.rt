@@ -5,7 +5,7 @@ ghost use Rattle.elements.specs.Elements.{record_of_elements};
 ghost use Rattle.fixed_iv.specs.Place.{Place};
 ghost use Rattle.sgp4_model.specs.Angle.{IsPi};
 ghost use Rattle.sgp4_model.specs.MeanMotion.{MotionRecord, IsMotionRecovered};
-ghost use Rattle.sgp4_motion.specs.Fate.{IsNearEarth, IsOrdinary, IsRefusedExactly, MayRefuseSet};
+ghost use Rattle.sgp4_motion.specs.Fate.{IsBetweenLimits, IsNearEarth, IsOrdinary, IsRefusedExactly, MayRefuseSet};
 ghost use Rattle.sgp4_motion.specs.HeldMotion.{IsHeldMotion, reach_motion};
 ghost use Rattle.sgp4_motion.specs.Recovered.{CoversMotion};
 
@@ -24,13 +24,13 @@ pub fn recover_motion<E: Enc>(set: &Elements) -> Result<Recovered<E>, SatFault>
     requires told { T E.tells }
     ensures covers { IfOk result (λ motion. (pi : ℚ) (m : MotionRecord) → IsPi pi → IsMotionRecovered (record_of_elements set.now) pi m → CoversMotion E.covers motion m) }
     ensures held { IfOk result (λ motion. (h : Place) (pi : ℚ) (m : MotionRecord) → IsPi pi → IsMotionRecovered (record_of_elements set.now) pi m → IsHeldMotion E.covers E.extent E.tells motion h m reach_motion) }
-    ensures accepted { IfOk result (λ _. IsOrdinary (record_of_elements set.now) × IsNearEarth (record_of_elements set.now)) }
+    ensures ordinary { IfOk result (λ _. IsOrdinary (record_of_elements set.now) × IsBetweenLimits (record_of_elements set.now)) }
+    ensures near_earth { IfOk result (λ _. IsNearEarth (record_of_elements set.now)) }
     ensures exact { IsRefusedExactly (record_of_elements set.now) (λ fault. result ≡ Err fault) }
     ensures refused { IfErr result (MayRefuseSet (record_of_elements set.now)) }
 {
-    match shown_fault(set) {
-        Some(fault) => return Err(fault),
-        None => {}
+    if let Some(fault) = shown_fault(set) {
+        return Err(fault);
     }
     let motion = recovered::<E>(set);
     if !is_short(period(motion.n0).bounds()) {

@@ -1,10 +1,10 @@
 //! The recovery of the mean motion.
-ghost use Rattle.exact.specs.Rational.{ℚ, ◌≤ℚ◌};
+ghost use Rattle.exact.specs.Rational.{ℚ};
 ghost use Rattle.elements.specs.Elements.{record_of_elements};
 ghost use Rattle.fixed_iv.specs.Place.{Place};
 ghost use Rattle.sgp4_model.specs.Angle.{IsPi};
 ghost use Rattle.sgp4_model.specs.MeanMotion.{MotionRecord, IsMotionRecovered};
-ghost use Rattle.sgp4_model.specs.Numerals.{decimal, whole};
+ghost use Rattle.sgp4_motion.specs.Fate.{IsBetweenLimits, IsOrdinary};
 ghost use Rattle.sgp4_motion.specs.HeldMotion.{IsHeldMotion, reach_recovered};
 
 use crate::Recovered;
@@ -15,10 +15,8 @@ use fixed_iv::{Enc, Iv};
 
 /// The recovered motion, where the mean motion is between 6.3 and 17 revolutions a day.
 pub(crate) fn recovered<E: Enc>(set: &Elements) -> Recovered<E>
-    requires ecc { (record_of_elements set.now).ecc ≤ℚ decimal 2 1 }
-    requires incl { (record_of_elements set.now).incl ≤ℚ whole 175 }
-    requires least { decimal 63 1 ≤ℚ (record_of_elements set.now).motion }
-    requires most { (record_of_elements set.now).motion ≤ℚ whole 17 }
+    requires ordinary { IsOrdinary (record_of_elements set.now) }
+    requires between { IsBetweenLimits (record_of_elements set.now) }
     ensures { (h : Place) (pi : ℚ) (m : MotionRecord) → IsPi pi → IsMotionRecovered (record_of_elements set.now) pi m → IsHeldMotion E.covers E.extent E.tells result h m reach_recovered }
 {
     let one = E::constant(Iv::from_ratio(1, 1));

@@ -46,8 +46,8 @@ returns-clause-ordinary c = record {
   not_dragged = rw c.bstar.ensures.value at (denies c.is_dragged.ensures c.if-is_dragged.false);
 }
 
-pub returns-clause-motion : goal.returns-clause-motion
-returns-clause-motion c =
+pub returns-clause-between : goal.returns-clause-between
+returns-clause-between c =
     let slow = rw (c.motion.ensures.value, c.of_scaled-2.ensures.value) at (denies c.is_at_most.ensures c.if-is_at_most.false) in
     let fast = rw (c.motion-2.ensures.value, c.whole-2.ensures.value, of_int_is) at (denies c.is_at_most-2.ensures c.if-is_at_most-2.false) in
-    (lt_of_not_le _ _ slow, lt_of_not_le _ _ fast)
+    record { above = lt_of_not_le _ _ slow; below = lt_of_not_le _ _ fast }

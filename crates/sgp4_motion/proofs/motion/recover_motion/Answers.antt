@@ -12,19 +12,13 @@ use Rattle.sgp4_motion.proofs.MotionLemmas.{rate_not_zero, some_motion, some_pi,
 use Rattle.sgp4_motion.proofs.NearEarthLemmas.{mean_motion_positive, near_earth_held}
 use Rattle.sgp4_motion.proofs.motion.recover_motion.Goals as goal
 
-pub recovered-motion-requires-clause-least : goal.recovered-motion-requires-clause-least
-recovered-motion-requires-clause-least g c = le_of_lt c.in-None.ensures.motion.0
-
-pub recovered-motion-requires-clause-most : goal.recovered-motion-requires-clause-most
-recovered-motion-requires-clause-most g c = le_of_lt c.in-None.ensures.motion.1
-
 pub returns-then-not-is_short-clause-refused : goal.returns-then-not-is_short-clause-refused
 unfolding ◌*ᴿ◌ ◌/ᴿ◌
 returns-then-not-is_short-clause-refused g c =
     let law = g.met.E.Enc.contained in
     let told = c.requires.told in
-    let shown = c.in-None.ensures in
-    let found = some_motion _ shown.elements.ecc (le_of_not_lt shown.ordinary.not_eccentric) (le_of_lt shown.motion.0) (le_of_lt shown.motion.1) in
+    let shown = c.in_default.ensures in
+    let found = some_motion _ shown.elements.ecc (le_of_not_lt shown.ordinary.not_eccentric) (le_of_lt shown.between.above) (le_of_lt shown.between.below) in
     let motion = c.recovered-motion.ensures some_place least_pi found.0 some_pi found.1 in
     let positive = mean_motion_positive (motion.n0.known told tt).inside in
     let period = within (from_to (pos 0) (pos 1) 1 4) (c.period.ensures some_place least_pi _ _ some_pi (rate_not_zero positive) motion.n0) tt in
@@ -46,8 +40,8 @@ unfolding ◌-ᴿ◌ ◌*ᴿ◌
 returns-then-not-is_high-clause-refused g c =
     let law = g.met.E.Enc.contained in
     let told = c.requires.told in
-    let shown = c.in-None.ensures in
-    let found = some_motion _ shown.elements.ecc (le_of_not_lt shown.ordinary.not_eccentric) (le_of_lt shown.motion.0) (le_of_lt shown.motion.1) in
+    let shown = c.in_default.ensures in
+    let found = some_motion _ shown.elements.ecc (le_of_not_lt shown.ordinary.not_eccentric) (le_of_lt shown.between.above) (le_of_lt shown.between.below) in
     let motion = c.recovered-motion.ensures some_place least_pi found.0 some_pi found.1 in
     let perigee = within (from_to (negsuc 1999) (pos 6100) 1 (2 ^ 20)) (c.perigee_km.ensures some_place _ _ motion.rp) tt in
     let low = rw c.bounds-2.ensures at (denies c.is_high.ensures c.if-not-is_high.true) in
@@ -62,27 +56,24 @@ returns-then-not-is_high-clause-refused g c =
       };
     }
 
-pub returns-clause-accepted : goal.returns-clause-accepted
-returns-clause-accepted g c = (
-  c.in-None.ensures.ordinary,
-  record {
-    period = λ pi m is_pi recovered.
-        let motion = c.recovered-motion.ensures some_place pi m is_pi recovered in
-        let positive = mean_motion_positive (motion.n0.known c.requires.told tt).inside in
-        let period = c.period.ensures some_place pi _ _ is_pi (rate_not_zero positive) motion.n0 in
-        let short = rw c.bounds.ensures at (shows c.is_short.ensures c.if-not-is_short.false) in
-        subst (λ t. t <ℚ whole 225) (period_is pi m.n0 (not_zero positive) (rate_not_zero positive)) (period_below _ (g.met.E.Enc.contained _ some_place _ period.covers) short);
-    perigee = λ pi m is_pi recovered.
-        let motion = c.recovered-motion.ensures some_place pi m is_pi recovered in
-        let perigee = c.perigee_km.ensures some_place _ _ motion.rp in
-        let high = rw c.bounds-2.ensures at (shows c.is_high.ensures c.if-not-is_high.false) in
-        perigee_from _ (g.met.E.Enc.contained _ some_place _ perigee.covers) high;
-  },
-)
+pub returns-clause-near_earth : goal.returns-clause-near_earth
+returns-clause-near_earth g c = record {
+  period = λ pi m is_pi recovered.
+      let motion = c.recovered-motion.ensures some_place pi m is_pi recovered in
+      let positive = mean_motion_positive (motion.n0.known c.requires.told tt).inside in
+      let period = c.period.ensures some_place pi _ _ is_pi (rate_not_zero positive) motion.n0 in
+      let short = rw c.bounds.ensures at (shows c.is_short.ensures c.if-not-is_short.false) in
+      subst (λ t. t <ℚ whole 225) (period_is pi m.n0 (not_zero positive) (rate_not_zero positive)) (period_below _ (g.met.E.Enc.contained _ some_place _ period.covers) short);
+  perigee = λ pi m is_pi recovered.
+      let motion = c.recovered-motion.ensures some_place pi m is_pi recovered in
+      let perigee = c.perigee_km.ensures some_place _ _ motion.rp in
+      let high = rw c.bounds-2.ensures at (shows c.is_high.ensures c.if-not-is_high.false) in
+      perigee_from _ (g.met.E.Enc.contained _ some_place _ perigee.covers) high;
+}
 
 pub returns-clause-held : goal.returns-clause-held
 returns-clause-held g c h pi m is_pi recovered =
-    near_earth_held _ pi c.requires.told is_pi recovered (returns-clause-accepted g c).1 (c.recovered-motion.ensures h pi m is_pi recovered)
+    near_earth_held _ pi c.requires.told is_pi recovered (returns-clause-near_earth g c) (c.recovered-motion.ensures h pi m is_pi recovered)
 
 pub returns-clause-covers : goal.returns-clause-covers
 returns-clause-covers g c pi m is_pi recovered =

@@ -10,8 +10,28 @@ use Rattle.sgp4_model.specs.Wgs72.{ke}
 use Rattle.sgp4_shape.specs.Covering.{unit_minutes}
 use Rattle.sgp4_motion.specs.HeldMotion.{reach_recovered}
 use Rattle.sgp4_motion.specs.Numerals.{exactly}
+use Rattle.sgp4_motion.proofs.FaultLemmas.{le_of_not_lt}
+use Rattle.exact.proofs.Strict.{le_of_lt}
 use Rattle.sgp4_motion.proofs.RecoveryLemmas.{axis_again, corrected_is, cosine_square_inside, divides_as_product, divides_at, effect_is, from_0, recovered_is, square_is}
 use Rattle.sgp4_motion.proofs.recovery.recovered.Goals as goal
+
+pub inclination-i-requires-clause-most : goal.inclination-i-requires-clause-most
+inclination-i-requires-clause-most g c = rw c.incl.ensures.value (le_of_not_lt c.requires.ordinary.not_inclined)
+
+pub eccentricity-e-requires-clause-most : goal.eccentricity-e-requires-clause-most
+eccentricity-e-requires-clause-most g c = rw c.ecc.ensures.value (le_of_not_lt c.requires.ordinary.not_eccentric)
+
+pub axis_power-power-requires-clause-least : goal.axis_power-power-requires-clause-least
+axis_power-power-requires-clause-least g c = rw c.motion.ensures.value (le_of_lt c.requires.between.above)
+
+pub axis_power-power-requires-clause-most : goal.axis_power-power-requires-clause-most
+axis_power-power-requires-clause-most g c = rw c.motion.ensures.value (le_of_lt c.requires.between.below)
+
+pub mean_motion-requires-clause-least : goal.mean_motion-requires-clause-least
+mean_motion-requires-clause-least g c = rw c.motion-2.ensures.value (le_of_lt c.requires.between.above)
+
+pub mean_motion-requires-clause-most : goal.mean_motion-requires-clause-most
+mean_motion-requires-clause-most g c = rw c.motion-2.ensures.value (le_of_lt c.requires.between.below)
 
 pub inclination-i-requires-clause-least : goal.inclination-i-requires-clause-least
 inclination-i-requires-clause-least g c = rw c.incl.ensures.value (from_0 c.incl.ensures.elements.incl.least)

@@ -1,0 +1,10 @@
+mod CoefficientLemmas
+mod DensityLemmas
+mod DragLemmas
+mod EquationLemmas
+mod GivenLemmas
+mod InitialLemmas
+mod NumberLemmas
+mod RateLemmas
+mod SeriesLemmas
+mod SizeLemmas

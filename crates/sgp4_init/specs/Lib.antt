@@ -1,0 +1,9 @@
+pub mod HeldCoefficients
+pub mod HeldDensity
+pub mod HeldDrag
+pub mod HeldEpoch
+pub mod HeldInitial
+pub mod HeldRates
+pub mod HeldSeries
+pub mod HighPerigee
+pub mod Numerals
