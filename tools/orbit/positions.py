@@ -50,31 +50,33 @@ def units(x):
     return int(mp.floor(x * 2**48))
 
 
-def lines(numbers, indent):
-    return textwrap.fill(", ".join(map(str, numbers)), 118, initial_indent=indent, subsequent_indent=indent)
+def lines(numbers, indent=4):
+    return textwrap.indent(textwrap.fill(", ".join(map(str, numbers)), 118 - indent), " " * indent)
 
 
 def main():
     with open("crates/rows_place/src/expected.rt", "w") as out:
         out.write("//! Expected values, made by tools/orbit/positions.py.\n\n")
-        out.write("/// Minutes from the epoch, mean elements and position: numbers of units of 2^-48, rounded down.\n")
-        out.write("pub type Row = (i64, [i64; 5], [i64; 3]);\n\n")
-        out.write("/// Constants of element sets, in the same units, and rows of each.\n")
+        out.write("/// Element sets, and times of each.\n")
+        out.write("pub const SETS: usize = %d;\npub const TIMES: usize = %d;\n\n" % (len(SETS), len(MINUTES)))
+        out.write("/// Numbers of units of 2^-48, rounded down. Of each set: its 32 constants; then for each time the minutes from the\n")
+        out.write("/// epoch, the five mean elements and the three coordinates.\n")
         out.write("#[rattlefmt::skip]\n")
-        out.write("pub const SETS: [([i64; 32], [Row; %d]); %d] = [\n" % (len(MINUTES), len(SETS)))
+        out.write("static NUMBERS: [i64; %d] = [\n" % (len(SETS) * (32 + 9 * len(MINUTES))))
         for numbers in SETS:
             satellite = Satellite(*numbers)
             assert satellite.perigee_km() >= 300 and satellite.period_minutes() < 225
             kept = satellite.kept()
             fields = [units(kept[name] * 16384**k) for k, names in enumerate(POWERS) for name in names.split()]
-            out.write("    ([\n%s,\n    ], [\n" % lines(fields, " " * 8))
+            out.write("    // revolutions per day %s, eccentricity %s, inclination %s\n%s,\n" % (*numbers[:3], lines(fields)))
             for minutes in MINUTES:
                 _, mean, _, vector = satellite.at(minutes)
-                means = [units(mean[name]) for name in ("am", "em", "ml", "wm", "om")]
-                position = [units(vector[name]) for name in "xyz"]
-                out.write("        (%d, %s,\n            %s),\n" % (minutes, means, position))
-            out.write("    ]),\n")
-        out.write("];\n")
+                out.write("    %d,\n" % minutes)
+                out.write("%s,\n" % lines([units(mean[name]) for name in ("am", "em", "ml", "wm", "om")], 8))
+                out.write("%s,\n" % lines([units(vector[name]) for name in "xyz"], 8))
+        out.write("];\n\n")
+        out.write("/// The number at this place of the table, and 0 past its end.\n")
+        out.write("pub fn number(place: usize) -> i64 {\n    NUMBERS.get(place).copied().unwrap_or(0)\n}\n")
 
 
 main()

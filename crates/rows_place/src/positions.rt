@@ -1,5 +1,7 @@
 //! Positions at single instants, against values from outside.
-use crate::expected::SETS;
+ghost use Rattle.std.specs.Prelude.{◌<◌};
+
+use crate::expected::{SETS, TIMES, number};
 use enc_plain::Plain;
 use fixed_iv::{Enc, Iv, Vec3};
 use sgp4_drag::secular;
@@ -17,58 +19,73 @@ fn unit<E: Enc>(floor: i64) -> E {
     E::constant(Iv::from_ratio(2 * i128::from(floor) + 1, 562_949_953_421_312))
 }
 
-/// Constants from whole numbers of units.
-fn consts_of<E: Enc>(fields: &[i64; 32]) -> Consts<E> {
+/// The constants whose numbers begin at this place.
+fn consts_of<E: Enc>(start: usize) -> Consts<E>
+    requires { start < 10000 }
+{
     Consts {
-        i: unit(fields[0]),
-        c: unit(fields[1]),
-        si: unit(fields[2]),
-        e: unit(fields[3]),
-        w0: unit(fields[4]),
-        o0: unit(fields[5]),
-        m0: unit(fields[6]),
-        bstar: unit(fields[7]),
-        a: unit(fields[8]),
-        eta: unit(fields[9]),
-        con41: unit(fields[10]),
-        c5: unit(fields[11]),
-        xmcof: unit(fields[12]),
-        xlcof: unit(fields[13]),
-        aycof: unit(fields[14]),
-        delmo: unit(fields[15]),
-        sin_m0: unit(fields[16]),
-        n0: unit(fields[17]),
-        mdot: unit(fields[18]),
-        wdot: unit(fields[19]),
-        odot: unit(fields[20]),
-        c1: unit(fields[21]),
-        c4: unit(fields[22]),
-        omgcof: unit(fields[23]),
-        t2cof: unit(fields[24]),
-        d2: unit(fields[25]),
-        nodecf: unit(fields[26]),
-        t3cof: unit(fields[27]),
-        d3: unit(fields[28]),
-        t4cof: unit(fields[29]),
-        d4: unit(fields[30]),
-        t5cof: unit(fields[31]),
+        i: unit(number(start)),
+        c: unit(number(start + 1)),
+        si: unit(number(start + 2)),
+        e: unit(number(start + 3)),
+        w0: unit(number(start + 4)),
+        o0: unit(number(start + 5)),
+        m0: unit(number(start + 6)),
+        bstar: unit(number(start + 7)),
+        a: unit(number(start + 8)),
+        eta: unit(number(start + 9)),
+        con41: unit(number(start + 10)),
+        c5: unit(number(start + 11)),
+        xmcof: unit(number(start + 12)),
+        xlcof: unit(number(start + 13)),
+        aycof: unit(number(start + 14)),
+        delmo: unit(number(start + 15)),
+        sin_m0: unit(number(start + 16)),
+        n0: unit(number(start + 17)),
+        mdot: unit(number(start + 18)),
+        wdot: unit(number(start + 19)),
+        odot: unit(number(start + 20)),
+        c1: unit(number(start + 21)),
+        c4: unit(number(start + 22)),
+        omgcof: unit(number(start + 23)),
+        t2cof: unit(number(start + 24)),
+        d2: unit(number(start + 25)),
+        nodecf: unit(number(start + 26)),
+        t3cof: unit(number(start + 27)),
+        d3: unit(number(start + 28)),
+        t4cof: unit(number(start + 29)),
+        d4: unit(number(start + 30)),
+        t5cof: unit(number(start + 31)),
     }
 }
 
-/// Mean elements from whole numbers of units.
-fn mean_of<E: Enc>(fields: &[i64; 5]) -> Mean<E> {
+/// The mean elements whose numbers begin at this place.
+fn mean_of<E: Enc>(start: usize) -> Mean<E>
+    requires { start < 10000 }
+{
     Mean {
-        am: unit(fields[0]),
-        em: unit(fields[1]),
-        ml: unit(fields[2]),
-        wm: unit(fields[3]),
-        om: unit(fields[4]),
+        am: unit(number(start)),
+        em: unit(number(start + 1)),
+        ml: unit(number(start + 2)),
+        wm: unit(number(start + 3)),
+        om: unit(number(start + 4)),
     }
 }
 
-/// The position at mean elements that are given by whole numbers of units.
-fn place_of<E: Enc>(consts: &Consts<E>, fields: &[i64; 5]) -> Option<Vec3<E>> {
-    place(consts, &mean_of(fields))
+/// Where the constants of a set begin, and the row of one of its times.
+fn places_of(set: usize, time: usize) -> (usize, usize)
+    requires set { set < 20 }
+    requires time { time < 10 }
+    ensures start { result.0 < 3000 }
+    ensures row { result.1 < 3000 }
+{
+    let start = set * (32 + 9 * TIMES);
+    (start, start + 32 + 9 * time)
+}
+
+/// The position at mean elements, through any enclosure.
+fn place_of<E: Enc>(consts: &Consts<E>, mean: &Mean<E>) -> Option<Vec3<E>> {
+    place(consts, mean)
 }
 
 /// The position so many minutes from the epoch.
@@ -83,13 +100,15 @@ fn holds(bounds: Iv, floor: i64, widest: i64) -> bool {
     lo <= floor && floor < hi && hi.wrapping_sub(lo) <= widest
 }
 
-/// Whether each coordinate holds its unit and is so narrow.
-fn all_hold(position: Option<Vec3<Plain>>, floors: &[i64; 3], widest: i64) -> bool {
+/// Whether each coordinate holds the unit that is written from this place on, and is so narrow.
+fn all_hold(position: Option<Vec3<Plain>>, start: usize, widest: i64) -> bool
+    requires { start < 10000 }
+{
     match position {
         Some(at) => {
-            holds(at.x.bounds(), floors[0], widest)
-                && holds(at.y.bounds(), floors[1], widest)
-                && holds(at.z.bounds(), floors[2], widest)
+            holds(at.x.bounds(), number(start), widest)
+                && holds(at.y.bounds(), number(start + 1), widest)
+                && holds(at.z.bounds(), number(start + 2), widest)
         }
         None => false,
     }
@@ -97,43 +116,47 @@ fn all_hold(position: Option<Vec3<Plain>>, floors: &[i64; 3], widest: i64) -> bo
 
 #[test]
 fn positions_hold_the_values_from_outside(rt: HostRuntime) {
-    for set in SETS.iter() {
-        let consts: Consts<Plain> = consts_of(&set.0);
-        for row in set.1.iter() {
-            assert!(rt; all_hold(place_of(&consts, &row.1), &row.2, SLIM));
+    for set in 0..SETS {
+        for time in 0..TIMES {
+            let (start, row) = places_of(set, time);
+            let consts: Consts<Plain> = consts_of(start);
+            assert!(rt; all_hold(place_of(&consts, &mean_of(row + 1)), row + 6, SLIM));
         }
     }
 }
 
 #[test]
 fn positions_at_a_time_hold_the_values_from_outside(rt: HostRuntime) {
-    for set in SETS.iter() {
-        let consts: Consts<Plain> = consts_of(&set.0);
-        for row in set.1.iter() {
-            assert!(rt; all_hold(place_at(&consts, row.0), &row.2, WIDEST));
+    for set in 0..SETS {
+        for time in 0..TIMES {
+            let (start, row) = places_of(set, time);
+            let consts: Consts<Plain> = consts_of(start);
+            assert!(rt; all_hold(place_at(&consts, number(row)), row + 6, WIDEST));
         }
     }
 }
 
-/// The changed field of the mean elements, its value in units of 2^-48, and the argument of perigee.
-const OUTSIDE: [(usize, i64); 4] = [
-    // an orbit below 1 Earth radius, for every eccentricity up to 0.2
-    (0, 225_179_981_368_525),
+/// The semimajor axis and the eccentricity in place of those of a row, in units of 2^-48.
+const OUTSIDE: [(i64, i64); 4] = [
+    // an orbit below 1 Earth radius
+    (225_179_981_368_525, 56_294_995_342_131),
     // a semimajor axis of 0, and one below 0
-    (0, 0),
-    (0, -281_474_976_710_656),
+    (0, 281_474_977),
+    (-281_474_976_710_656, 281_474_977),
     // an eccentricity near 1
-    (1, 281_474_976_429_181),
+    (300_027_452_331_351, 281_474_976_429_181),
 ];
 
 #[test]
 fn no_position_outside_the_guards(rt: HostRuntime) {
-    for set in SETS.iter() {
-        let consts: Consts<Plain> = consts_of(&set.0);
-        for change in OUTSIDE.iter() {
-            let mut fields = set.1[4].1;
-            fields[change.0] = change.1;
-            assert!(rt; place_of(&consts, &fields).is_none());
+    for set in 0..SETS {
+        let (start, row) = places_of(set, 4);
+        let consts: Consts<Plain> = consts_of(start);
+        for (axis, eccentricity) in OUTSIDE {
+            let mut mean: Mean<Plain> = mean_of(row + 1);
+            mean.am = unit(axis);
+            mean.em = unit(eccentricity);
+            assert!(rt; place_of(&consts, &mean).is_none());
         }
     }
 }

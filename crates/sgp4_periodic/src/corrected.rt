@@ -60,8 +60,10 @@ pub(crate) fn corrected_at<E: Enc>(
     let k1 = half_j2_over(ellipse.pl);
     let k2 = k1.divided(ellipse.pl);
     let k = one_and_a_half(k2);
+    let rl = mean.am.times(near);
+    let mrt = distance(rl, k1, k, b, consts.con41, consts.c, c2);
     Corrected {
-        mrt: distance(mean.am.times(near), k1, k, b, consts.con41, consts.c, c2),
+        mrt,
         su,
         cu,
         du: latitude_change(k2, consts.c, s2),
