@@ -1,12 +1,12 @@
 -- The satellites of sets, with one set more behind them.
-use Rattle.std.proofs.Common.{◌≡◌, ℕ, ◌==◌, nat_lt, Bool, true, false, cond, not, ◌&&◌, ◌||◌, List, [], ◌∷◌, ◌++◌, map, filter, filter_map, find, Option, None, Some, is_some, ℤ, refl, sym, ap, ◌∙◌}
+use Rattle.std.proofs.Common.{◌≡◌, ℕ, ◌==◌, Bool, true, false, cond, not, ◌||◌, List, [], ◌∷◌, ◌++◌, filter, filter_map, Option, None, Some, is_some, ℤ, refl, sym, ap, ◌∙◌}
 use Rattle.std.proofs.lemmas.Bool.{and_from, both_ways, not-true, or_parts, eqb-true, eqb-false, eq-eqb, ne_eqb}
 use Rattle.std.proofs.lemmas.List.{append-nil, map-append}
 use Rattle.std.proofs.lemmas.List.Elements.{filter-append, filter_map-append}
 use Rattle.std.specs.List.{list_all, list_any, cons_option}
 use Rattle.catalogue.specs.declared.entry.Entry.{Entry}
 use Rattle.catalogue.specs.Choice.{distance, once_each, sets_with, is_nearest, nearest, chosen_of}
-use Rattle.catalogue.specs.Entries.{numbers, has_number}
+use Rattle.catalogue.specs.Entries.{numbers}
 use Rattle.catalogue.specs.Keeping.{is_nearer, with_set}
 use Rattle.catalogue.proofs.NearestLemmas.{found_among, nearer, least-is_some, least-push}
 

@@ -45,7 +45,7 @@ next-begins : (first number : ℕ) (done line : List ℕ) (lines : List (List �
 next-begins first number done line [] e = refl
 next-begins first number done line (next ∷ lines) e =
     ap (λ b. record { number = first; text = done ++ join_with_byte 10 (line ∷ cond b [] (next ∷ before_next lines)) }
-        ∷ cond b (message_from (number + 1) next lines ∷ further_messages (number + 1 + 1) lines) (further_messages (number + 1 + 1) lines)) e
+    ∷ cond b (message_from (number + 1) next lines ∷ further_messages (number + 1 + 1) lines) (further_messages (number + 1 + 1) lines)) e
 
 -- it begins none
 next-goes_on : (first number : ℕ) (done line : List ℕ) (lines : List (List ℕ)) → (lines ≡ [] → ⊥) → begins_message (first_of lines) ≡ false
@@ -53,10 +53,10 @@ next-goes_on : (first number : ℕ) (done line : List ℕ) (lines : List (List �
 next-goes_on first number done line [] some e = absurd (some refl)
 next-goes_on first number done line (next ∷ lines) some e =
     ap (λ b. record { number = first; text = done ++ join_with_byte 10 (line ∷ cond b [] (next ∷ before_next lines)) }
-        ∷ cond b (message_from (number + 1) next lines ∷ further_messages (number + 1 + 1) lines) (further_messages (number + 1 + 1) lines)) e
+    ∷ cond b (message_from (number + 1) next lines ∷ further_messages (number + 1 + 1) lines) (further_messages (number + 1 + 1) lines)) e
     ∙ ap (λ text. record { number = first; text = text } ∷ further_messages (number + 1 + 1) lines)
-        (ap (λ l. done ++ l) (sym (append_assoc line (10 ∷ []) (join_with_byte 10 (next ∷ before_next lines))))
-        ∙ sym (append_assoc done (line ++ 10 ∷ []) (join_with_byte 10 (next ∷ before_next lines))))
+    (ap (λ l. done ++ l) (sym (append_assoc line (10 ∷ []) (join_with_byte 10 (next ∷ before_next lines))))
+    ∙ sym (append_assoc done (line ++ 10 ∷ []) (join_with_byte 10 (next ∷ before_next lines))))
 
 -- a message ends at this line feed
 pub grown-found : (first number at end : ℕ) (text rest behind line : List ℕ) → position is_end rest ≡ Some end → rest ≡ drop at text → behind ≡ drop (end + 1) rest

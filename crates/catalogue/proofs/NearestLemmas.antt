@@ -1,5 +1,5 @@
 -- The first of the nearest, where one more stands behind.
-use Rattle.std.proofs.Common.{◌≡◌, ℕ, zero, suc, ◌<◌, ◌≤◌, nat_le, nat_lt, min, arith, Bool, true, false, cond, ◌&&◌, ◌||◌, List, [], ◌∷◌, ◌++◌, find, Option, None, Some, is_some, refl, sym, ap, ◌∙◌}
+use Rattle.std.proofs.Common.{◌≡◌, ℕ, ◌<◌, ◌≤◌, nat_le, nat_lt, min, arith, Bool, true, false, cond, ◌&&◌, ◌||◌, List, [], ◌∷◌, ◌++◌, find, Option, None, Some, is_some, refl, sym, ap, ◌∙◌}
 use Rattle.std.proofs.lemmas.Bool.{and_parts, and_from, and_left, and_right, or_left, or_right, both_ways, ltb-true, ltb-false, leb-true, leb-false, le-leb, lt-leb}
 use Rattle.std.proofs.lemmas.List.Folds.{find-append, list_all-append}
 use Rattle.std.specs.List.{list_all, list_any}
@@ -22,6 +22,7 @@ module _ {A : Type 0} where
     where
       both : (q y ≡ true) × (list_all q ys ≡ true)
       both = and_parts _ _ all
+
       by : (b : Bool) → cond b (Some y) (find p ys) ≡ Some x → (find p ys ≡ Some x → list_all q ys ≡ true → q x ≡ true) → q x ≡ true
       by true found later = let is : y ≡ x = cc in ap q (sym is) ∙ both.0
       by false found later = later found both.1
@@ -118,14 +119,14 @@ module _ {A : Type 0} (d : A → ℕ) where
   least-push-near s xs kept near all =
       let tail : list_all (λ other. nat_le (d s) (d other)) (s ∷ []) ≡ true = and_from (nat_le (d s) (d s)) true (le-leb (d s) (d s) (omega arith)) refl in
       let here : is_least (xs ++ s ∷ []) s ≡ true =
-          list_all-append (λ other. nat_le (d s) (d other)) xs (s ∷ [])
-          ∙ and_from (is_least xs s) (list_all (λ other. nat_le (d s) (d other)) (s ∷ []))
-              (all_weaker (λ other. nat_le (d kept) (d other)) (λ other. nat_le (d s) (d other)) xs (λ x far. le-leb (d s) (d x) (less (farther near (leb-true (d kept) (d x) far)))) all)
-              tail in
+      list_all-append (λ other. nat_le (d s) (d other)) xs (s ∷ [])
+      ∙ and_from (is_least xs s) (list_all (λ other. nat_le (d s) (d other)) (s ∷ []))
+      (all_weaker (λ other. nat_le (d kept) (d other)) (λ other. nat_le (d s) (d other)) xs (λ x far. le-leb (d s) (d x) (less (farther near (leb-true (d kept) (d x) far)))) all)
+      tail in
       let earlier : find (is_least (xs ++ s ∷ [])) xs ≡ None =
-          none_found (is_least (xs ++ s ∷ [])) (λ other. nat_le (d kept) (d other)) xs all
-              (λ x far. list_all-append (λ other. nat_le (d x) (d other)) xs (s ∷ [])
-                  ∙ and_right (is_least xs x) _ (and_left (nat_le (d x) (d s)) true (lt-leb (d x) (d s) (farther near (leb-true (d kept) (d x) far))))) in
+      none_found (is_least (xs ++ s ∷ [])) (λ other. nat_le (d kept) (d other)) xs all
+      (λ x far. list_all-append (λ other. nat_le (d x) (d other)) xs (s ∷ [])
+      ∙ and_right (is_least xs x) _ (and_left (nat_le (d x) (d s)) true (lt-leb (d x) (d s) (farther near (leb-true (d kept) (d x) far))))) in
       find-append (is_least (xs ++ s ∷ [])) xs (s ∷ [])
       ∙ ap (λ o. option_or o (find (is_least (xs ++ s ∷ [])) (s ∷ []))) earlier
       ∙ ap (λ c. cond c (Some s) None) here
@@ -138,10 +139,10 @@ module _ {A : Type 0} (d : A → ℕ) where
   least-push-far : (s : A) (xs : List A) (kept : A) → d kept ≤ d s → first_least xs ≡ Some kept → first_least (xs ++ s ∷ []) ≡ Some kept
   least-push-far s xs kept far found =
       let same : find (is_least (xs ++ s ∷ [])) xs ≡ find (is_least xs) xs =
-          same_found (is_least (xs ++ s ∷ [])) (is_least xs) xs
-              (λ x. list_all-append (λ other. nat_le (d x) (d other)) xs (s ∷ [])
-                  ∙ both_least (is_least xs x) (nat_le (d x) (d s))
-                      (λ near. le-leb (d x) (d s) (through (leb-true (d x) (d kept) (found_among (is_least xs) (λ other. nat_le (d x) (d other)) xs kept found near)) far))) in
+      same_found (is_least (xs ++ s ∷ [])) (is_least xs) xs
+      (λ x. list_all-append (λ other. nat_le (d x) (d other)) xs (s ∷ [])
+      ∙ both_least (is_least xs x) (nat_le (d x) (d s))
+      (λ near. le-leb (d x) (d s) (through (leb-true (d x) (d kept) (found_among (is_least xs) (λ other. nat_le (d x) (d other)) xs kept found near)) far))) in
       find-append (is_least (xs ++ s ∷ [])) xs (s ∷ [])
       ∙ ap (λ o. option_or o (find (is_least (xs ++ s ∷ [])) (s ∷ []))) (same ∙ found)
 
@@ -152,6 +153,7 @@ module _ {A : Type 0} (d : A → ℕ) where
       or_kept : (kept : A) (b : Bool) → nat_lt (d s) (d kept) ≡ b → first_least xs ≡ Some kept → first_least (xs ++ s ∷ []) ≡ Some (cond b s kept)
       or_kept kept true e found = least-push-near s xs kept (ltb-true (d s) (d kept) e) (found_passes (is_least xs) xs kept found)
       or_kept kept false e found = least-push-far s xs kept (ltb-false (d s) (d kept) e) found
+
       by : (found : Option A) → first_least xs ≡ found → first_least (xs ++ s ∷ []) ≡ Some (nearer s found)
       by None none = least-push-none s xs none
       by (Some kept) found = or_kept kept (nat_lt (d s) (d kept)) refl found

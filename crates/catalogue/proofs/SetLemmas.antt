@@ -1,5 +1,5 @@
 -- The sets of lines, as they are read.
-use Rattle.std.proofs.Common.{◌≡◌, ℕ, ◌<◌, arith, length, refl, Bool, true, false, List, [], ◌∷◌, Result, Ok, Err, Some, cond, sym, ap, ◌∙◌}
+use Rattle.std.proofs.Common.{◌≡◌, ◌<◌, arith, length, refl, Bool, true, false, List, [], ◌∷◌, Result, Ok, Err, Some, cond, sym, ap, ◌∙◌}
 use Rattle.catalogue.specs.declared.entry.Entry.{Entry}
 use Rattle.catalogue.specs.declared.fault.CatFault.{CatFault}
 use Rattle.catalogue.specs.declared.fault.CatFault.TheVariants.{Odd, OutOfMemory}

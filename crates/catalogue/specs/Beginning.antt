@@ -1,7 +1,7 @@
 -- Where the next message of a text begins.
 use Rattle.std.specs.Prelude.{◌≡◌, ℕ, ◌+◌, ◌<◌, ◌≤◌, List, [], ◌∷◌, length, take, drop}
 use Rattle.omm_kvn.specs.Lines.{split}
-use Rattle.catalogue.specs.MessageFile.{NumberedText, messages_from}
+use Rattle.catalogue.specs.MessageFile.{messages_from}
 use Rattle.catalogue.specs.declared.beginning.Beginning.{Beginning}
 
 -- the message at the beginning of a text whose first line has this number ends at a line feed, and the next message

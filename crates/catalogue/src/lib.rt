@@ -10,6 +10,7 @@ mod lines;
 mod message;
 mod messages;
 mod name;
+mod nearer;
 mod read;
 mod sets;
 mod two_line;

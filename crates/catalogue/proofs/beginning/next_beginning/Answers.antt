@@ -1,4 +1,4 @@
-use Rattle.std.proofs.Common.{◌≡◌, ◌+◌, ◌∷◌, length, drop, refl, sym, ap, ◌∙◌, arith}
+use Rattle.std.proofs.Common.{◌+◌, drop, sym, ap, ◌∙◌, arith}
 use Rattle.std.proofs.lemmas.List.{drop-drop}
 use Rattle.catalogue.proofs.MessageLemmas.{grown-found, grown-on, grown-last}
 use Rattle.catalogue.proofs.beginning.next_beginning.Goals as goal
@@ -9,8 +9,8 @@ returns-then-begins_message-clause-some c = record {
   count = omega (arith, c.loop-end.invariant.count);
   positive = omega arith;
   cuts = sym c.loop-end.invariant.same
-    ∙ grown-found c.args.number c.loop-end.next c.loop-end.at c.in-Some.end c.args.text.now c.loop-end.rest.now c.cut.result.1.now c.first_line.result.now
-        (sym c.line_end.ensures.value ∙ c.in-Some.is) c.loop-end.invariant.rest c.cut.ensures.behind c.first_line.ensures.value (sym c.begins_message.ensures ∙ c.if-begins_message.true);
+      ∙ grown-found c.args.number c.loop-end.next c.loop-end.at c.in-Some.end c.args.text.now c.loop-end.rest.now c.cut.result.1.now c.first_line.result.now
+      (sym c.line_end.ensures.value ∙ c.in-Some.is) c.loop-end.invariant.rest c.cut.ensures.behind c.first_line.ensures.value (sym c.begins_message.ensures ∙ c.if-begins_message.true);
 }
 
 pub loop-end-preserved : goal.loop-end-preserved
@@ -20,8 +20,8 @@ loop-end-preserved c = record {
   count = omega (arith, c.loop-end.invariant.count);
   positive = omega arith;
   same = sym (grown-on c.args.number c.loop-end.next c.loop-end.at c.in-Some.end c.args.text.now c.loop-end.rest.now c.cut.result.1.now c.first_line.result.now
-        (sym c.line_end.ensures.value ∙ c.in-Some.is) c.loop-end.invariant.rest c.cut.ensures.behind c.first_line.ensures.value (sym c.begins_message.ensures ∙ c.if-begins_message.false))
-    ∙ c.loop-end.invariant.same;
+      (sym c.line_end.ensures.value ∙ c.in-Some.is) c.loop-end.invariant.rest c.cut.ensures.behind c.first_line.ensures.value (sym c.begins_message.ensures ∙ c.if-begins_message.false))
+      ∙ c.loop-end.invariant.same;
 }
 
 pub returns-clause-none : goal.returns-clause-none

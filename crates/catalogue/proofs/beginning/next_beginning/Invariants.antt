@@ -11,7 +11,7 @@ invariant-loop-end l = record {
   room : l.at + length l.rest ≡ length l.text;
   count : l.next ≤ l.number + l.at;
   positive : 1 ≤ l.next;
-  same : grown l.number (take l.at l.text) l.next (split l.rest) ≡ messages_from l.number (split l.text)
+  same : grown l.number (take l.at l.text) l.next (split l.rest) ≡ messages_from l.number (split l.text);
 }
 
 abbrev pub decreases-loop-end : goal.decreases-loop-end

@@ -9,7 +9,7 @@ abbrev pub invariant-loop-end : goal.invariant-loop-end
 invariant-loop-end l = record {
   count : l.number + length l.rest ≤ most_bytes + 1;
   positive : 1 ≤ l.number;
-  same : messages_among l.number (split l.rest) ≡ messages l.bytes
+  same : messages_among l.number (split l.rest) ≡ messages l.bytes;
 }
 
 abbrev pub decreases-loop-end : goal.decreases-loop-end
