@@ -1,6 +1,13 @@
 //! The lines of element sets.
-use elements::{Decimal, Elements, Instant, is_angle, is_eccentricity, is_inclination, is_motion};
-use pass_text::{PASSSHOW, set_line};
+ghost use Rattle.std.specs.Prelude.{◌<◌, length};
+
+use catalogue::Catalogue;
+use elements::{
+    Decimal, Elements, Instant, Text, is_angle, is_eccentricity, is_inclination, is_motion,
+};
+use pass_text::{Line, PASSSHOW, set_line};
+use std::alloc::{AllocError, Global};
+use std::test::Fail;
 use tle_read::read_pair;
 
 /// Vanguard 1, one of the published test cases of the orbit model.
@@ -107,4 +114,42 @@ fn the_longest_set_has_261_bytes(rt: HostRuntime) {
 #[test]
 fn the_sets_have_a_heading(rt: HostRuntime) {
     assert!(rt; PASSSHOW == b"PASSSHOW 1\n".as_slice(), "the heading");
+}
+
+/// Adds a satellite without a name.
+#[tactic(auto, using(catalogue::proofs::NameLemmas::dash_is_name))]
+fn add(alloc: Global, catalogue: &mut Catalogue, elements: Elements) -> Result<bool, AllocError> {
+    let name = Text::copy(alloc, b"-".as_slice())?;
+    catalogue.add(elements, name)
+}
+
+/// The line of a satellite of a catalogue, whose names are short enough.
+fn line_of(catalogue: &Catalogue, k: u32) -> Line
+    requires { k < length catalogue.now }
+{
+    let entry = catalogue.entry(k);
+    set_line(&entry.elements, entry.name.bytes())
+}
+
+#[test]
+fn a_satellite_of_a_catalogue_is_printed(rt: HostRuntime) -> Result<(), Fail> {
+    let mut catalogue = Catalogue::empty(rt.alloc());
+    match read_pair(VANGUARD1, VANGUARD2) {
+        Ok(elements) => match add(rt.alloc(), &mut catalogue, elements) {
+            Ok(added) => assert!(rt; added, "the catalogue was empty"),
+            Err(_) => assert!(rt; false, "memory is left"),
+        },
+        Err(_) => assert!(rt; false, "the lines are a set"),
+    }
+    if catalogue.len() == 1 {
+        let line = line_of(&catalogue, 0);
+        assert!(rt;
+            line.bytes()
+                == b"SET 5 2000-06-27T18:50:19.733568000Z 10.82419157 0.1859667 34.2682 348.7242 331.7664 19.3264 0.000028098 -\n".as_slice(),
+            "the printed line"
+        );
+    } else {
+        assert!(rt; false, "one satellite is there");
+    }
+    Ok(())
 }
