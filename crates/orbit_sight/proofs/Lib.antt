@@ -1,3 +1,4 @@
 pub mod CellLemmas
+mod CraftLemmas
 pub mod DayLemmas
 mod MomentLemmas

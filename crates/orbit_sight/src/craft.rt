@@ -1,6 +1,7 @@
 //! A satellite, ready to be placed.
 ghost use Rattle.std.specs.Prelude.{◌≡◌, IfOk, IfErr, IfSome, IfNone, Err};
 
+use crate::bounded::bounded;
 use crate::moment::time_from;
 use elements::{Elements, Instant};
 use enc_plain::Plain;
@@ -57,9 +58,13 @@ impl Craft {
         ensures none { IfNone result (IsUnknownAt self.now at) }
     {
         let time = Plain::constant(time_from(self.set.epoch(), at));
-        let mean = secular(&self.consts, time)?;
-        let position = place(&self.consts, &mean)?;
-        bounded(bounds_of(&position))
+        match secular(&self.consts, time) {
+            Some(mean) => match place(&self.consts, &mean) {
+                Some(position) => bounded(bounds_of(&position)),
+                None => None,
+            },
+            None => None,
+        }
     }
 }
 
