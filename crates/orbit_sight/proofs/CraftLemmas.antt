@@ -5,7 +5,6 @@ use Rattle.exact.specs.Rational.{ℚ, ◌*ℚ◌}
 use Rattle.elements.specs.Elements.{ElementsRecord, record_of_elements}
 use Rattle.enc_plain.specs.declared.plain.Plain.{Plain}
 use Rattle.enc_plain.proofs.PlainHeld.{middle}
-use Rattle.fixed_iv.specs.Holds.{Holds}
 use Rattle.fixed_iv.specs.Place.{Place}
 use Rattle.fixed_iv.specs.declared.iv.Iv.{Iv}
 use Rattle.fixed_iv.specs.declared.vec3.Vec3.{Vec3}
@@ -23,7 +22,7 @@ use Rattle.sgp4_periodic.specs.Unplaced.{IsUnplaced}
 use Rattle.sgp4_shape.specs.Covering.{CoversConsts, CoversMean, unit_minutes}
 use Rattle.sgp4_shape.specs.declared.consts.Consts.{Consts}
 use Rattle.sgp4_shape.specs.declared.mean.Mean.{Mean}
-use Rattle.orbit_sight.specs.Craft.{EncloseConsts, HoldsVector, IsBoundedVector, IsCraft, IsPositionUnknown, IsUnbounded, IsUnknownAt, plain_covers, plain_extent}
+use Rattle.orbit_sight.specs.Craft.{HoldsVector, IsBoundedVector, IsCraft, IsUnknownAt, plain_covers, plain_extent}
 use Rattle.orbit_sight.specs.Moment.{units_from}
 use Rattle.orbit_sight.proofs.MomentLemmas.{minutes_are}
 

@@ -1,5 +1,5 @@
 -- What a craft keeps of an element set, and when its position is not enclosed.
-use Rattle.std.specs.Prelude.{◌≡◌, ◌⊎◌, ℤ, true}
+use Rattle.std.specs.Prelude.{◌⊎◌, ℤ, true}
 use Rattle.exact.specs.Rational.{ℚ}
 use Rattle.elements.specs.Elements.{ElementsRecord, record_of_elements}
 use Rattle.enc_plain.specs.declared.plain.Plain.{Plain}

@@ -13,6 +13,7 @@ use sgp4_shape::{Consts, SatFault};
 use std::marker::Model;
 
 /// A satellite that is accepted: its element set, with the constants of its orbit.
+#[derive(Drop)]
 pub struct Craft {
     set: Elements,
     consts: Consts<Plain>,

@@ -1,7 +1,7 @@
 -- Whole millimetres next to the ends of an interval are bounds of the numbers that it holds.
-use Rattle.std.proofs.Common.{◌≡◌, [], ◌∷◌, sym, ap, ◌∙◌, ℤ, pos, ◌*ℤ◌, ◌≤ℤ◌}
+use Rattle.std.proofs.Common.{[], ◌∷◌, ℤ, pos, ◌*ℤ◌, ◌≤ℤ◌}
 use Rattle.exact.specs.Rational.{ℚ, of_int, ratio, ◌*ℚ◌, ◌≤ℚ◌}
-use Rattle.exact.proofs.RationalRing.{ring, reads}
+use Rattle.exact.proofs.RationalRing.{reads}
 use Rattle.exact.proofs.Order.{gap, known, le_by, ◌⊕◌, ◌⊗◌}
 use Rattle.exact.proofs.Integers.{of_int_is, of_int_le, of_int_mul}
 use Rattle.fixed_iv.specs.Ends.{in_units}

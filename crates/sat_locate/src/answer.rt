@@ -2,8 +2,8 @@
 ghost use Rattle.std.specs.Prelude.{IfOk};
 ghost use Rattle.sat_locate.specs.Found.{IsAnswerFor, IsFoundFor, found_record, locate_record};
 
-use crate::found::{Found, LocAnswer};
 use crate::edge::edge_of;
+use crate::found::{Found, LocAnswer};
 use catalogue::Catalogue;
 use elements::{Elements, Instant, OutOfMemory, Text};
 use orbit_sight::{Craft, is_far_at};
@@ -36,7 +36,10 @@ fn found_of(set: &Elements, name: Text, at: Instant) -> Found
     match Craft::make(set) {
         Ok(craft) => {
             if is_far_at(set, at) {
-                return Found::Refused { fault: SatFault::Far, name };
+                return Found::Refused {
+                    fault: SatFault::Far,
+                    name,
+                };
             }
             match craft.bounds_at(at) {
                 Some(bounds) => Found::Inside {

@@ -9,7 +9,10 @@ pub enum Found {
     /// No satellite has the number.
     Missing,
     /// Its element set is refused.
-    Refused { fault: SatFault, name: Text },
+    Refused {
+        fault: SatFault,
+        name: Text,
+    },
     /// Each coordinate of its position lies between two bounds.
     Inside {
         name: Text,
@@ -18,7 +21,9 @@ pub enum Found {
         z: Edge,
     },
     /// No bounds of its position are known.
-    Unplaced { name: Text },
+    Unplaced {
+        name: Text,
+    },
 }
 
 /// The answer for a catalogue number and an instant.

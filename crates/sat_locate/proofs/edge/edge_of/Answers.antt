@@ -1,4 +1,4 @@
-use Rattle.std.proofs.Common.{◌≡◌, arith, ◌≤ℤ◌, ◌*ℤ◌, pos}
+use Rattle.std.proofs.Common.{arith}
 use Rattle.std.proofs.lemmas.Int.{ints}
 use Rattle.sat_locate.proofs.EdgeLemmas.{between_edges}
 use Rattle.sat_locate.proofs.edge.edge_of.Goals as goal
