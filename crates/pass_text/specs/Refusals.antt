@@ -35,3 +35,11 @@ window_fault_line Resolution = codes "error window resolution\n"
 -- `error memory`
 unfoldable pub memory_line : List ℕ
 memory_line = codes "error memory\n"
+
+-- `error read`
+unfoldable pub read_line : List ℕ
+read_line = codes "error read\n"
+
+-- `error toolong`
+unfoldable pub too_long_line : List ℕ
+too_long_line = codes "error toolong\n"

@@ -2,7 +2,7 @@
 ghost use Rattle.std.specs.Prelude.{◌≡◌, ◌+◌, ◌≤◌, ◌++◌, [], length, decimal};
 
 use arrayvec::ArrayVec;
-use elements::Instant;
+use elements::{Decimal, Instant};
 use itoa::Buffer;
 use std::marker::Model;
 
@@ -22,6 +22,8 @@ impl Model for Line {
 
 impl Line {
     ghost use Rattle.civil_time.specs.InstantText.{instant_text};
+    ghost use Rattle.decimals.specs.PrintedDecimal.{decimal_text};
+    ghost use Rattle.std.specs.Fmt.{signed_decimal};
 
     /// An empty line.
     pub fn new() -> Line
@@ -57,6 +59,26 @@ impl Line {
     {
         let mut digits = Buffer::new();
         self.text(digits.format(n).as_bytes());
+    }
+
+    /// Appends a whole number in decimal digits, behind a minus sign where it is below 0.
+    pub fn signed(&mut self, n: i64)
+        requires { length self.old ≤ 300 }
+        ensures text { self.new ≡ self.old ++ signed_decimal n }
+        ensures len { length self.new ≤ length self.old + 20 }
+    {
+        let mut digits = Buffer::new();
+        self.text(digits.format(n).as_bytes());
+    }
+
+    /// Appends a decimal.
+    pub fn decimal(&mut self, number: Decimal)
+        requires { length self.old ≤ 299 }
+        ensures text { self.new ≡ self.old ++ decimal_text number }
+        ensures len { length self.new ≤ length self.old + 21 }
+    {
+        let digits = number.text();
+        self.text(digits.as_slice());
     }
 
     /// Appends an instant with so many decimals of the second.

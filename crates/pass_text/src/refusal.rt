@@ -1,6 +1,6 @@
 //! The lines of refusals.
 ghost use Rattle.std.specs.Prelude.{◌≡◌, ◌≤◌, length};
-ghost use Rattle.pass_text.specs.Refusals.{key_line, memory_line, usage_line, window_fault_line, word_line};
+ghost use Rattle.pass_text.specs.Refusals.{key_line, memory_line, read_line, too_long_line, usage_line, window_fault_line, word_line};
 
 use crate::line::Line;
 use pass_words::{Opt, UsageFault, WindowFault};
@@ -69,8 +69,24 @@ pub fn memory_line() -> Line
     whole(b"error memory\n")
 }
 
+/// `error read`
+#[tactic(auto, unfolding(crate::specs::Refusals::read_line))]
+pub fn read_line() -> Line
+    ensures { result ≡ read_line }
+{
+    whole(b"error read\n")
+}
+
+/// `error toolong`
+#[tactic(auto, unfolding(crate::specs::Refusals::too_long_line))]
+pub fn too_long_line() -> Line
+    ensures { result ≡ too_long_line }
+{
+    whole(b"error toolong\n")
+}
+
 /// A line that is known whole.
-fn whole(text: &[u8]) -> Line
+pub(crate) fn whole(text: &[u8]) -> Line
     requires { length text.now ≤ 320 }
     ensures { result ≡ text.now }
 {
