@@ -1,11 +1,12 @@
 -- A map whose keys are the numbers of its values.
 use Rattle.std.proofs.Common.{◌≡◌, ℕ, zero, suc, ◌+◌, ◌<◌, ◌≤◌, nat_eq, arith, Bool, true, false, cond, ◌||◌, List, [], ◌∷◌, ◌++◌, length, Option, None, Some, is_some, All, refl, sym, ap, ◌∙◌}
+use Rattle.std.proofs.lemmas.Bool.{eqb-true}
 use Rattle.std.proofs.lemmas.List.{map-append, length-append}
 use Rattle.std.proofs.lemmas.List.Elements.{All-append}
 use Rattle.std.specs.List.{list_any}
 use Rattle.std.specs.Map.{keys_of, values_of, lookup}
 use Rattle.catalogue.specs.declared.entry.Entry.{Entry}
-use Rattle.catalogue.specs.Entries.{IsName, IsCatalogue, numbers, has_number, most_entries}
+use Rattle.catalogue.specs.Entries.{IsName, IsCatalogue, numbers, has_number, entry_with, most_entries}
 
 first : {X : Type 0} (passes : Bool) (value : X) (rest : Option X) (found : Bool) → is_some rest ≡ found → is_some (cond passes (Some value) rest) ≡ (passes || found)
 first true value rest found e = refl
@@ -51,3 +52,29 @@ catalogue-push entries entry old room name = record {
     one : All (λ (e : Entry). IsName e.name) (entry ∷ [])
     one zero d h = name
     one (suc k) d h = absurd (omega arith)
+
+found_entry : (a b : Bool) (value : Entry) (rest found : Option Entry) → a ≡ b → rest ≡ found → cond a (Some value) rest ≡ cond b (Some value) found
+found_entry a b value rest found e f = rw (e, f) refl
+
+-- what a key finds is the first value with the number
+pub lookup_entry : (number : ℕ) (es : List (ℕ × Entry)) → numbers (values_of es) ≡ keys_of es → lookup (nat_eq number) es ≡ entry_with number (values_of es)
+lookup_entry number [] same = refl
+lookup_entry number (e ∷ es) same =
+    let head : e.1.elements.number ≡ e.0 = cc in
+    let tail : numbers (values_of es) ≡ keys_of es = cc in
+    found_entry (nat_eq number e.0) (nat_eq number e.1.elements.number) e.1 _ _ (ap (nat_eq number) (sym head)) (lookup_entry number es tail)
+
+-- it is there where a value has the number
+pub entry_with-is_some : (number : ℕ) (entries : List Entry) → is_some (entry_with number entries) ≡ has_number number entries
+entry_with-is_some number [] = refl
+entry_with-is_some number (e ∷ es) = first (nat_eq number e.elements.number) e (entry_with number es) (has_number number es) (entry_with-is_some number es)
+
+-- and has this number
+pub entry_with-number : (number : ℕ) (entries : List Entry) (entry : Entry) → entry_with number entries ≡ Some entry → entry.elements.number ≡ number
+entry_with-number number [] entry h = absurd cc
+entry_with-number number (e ∷ es) entry h = by (nat_eq number e.elements.number) refl h (entry_with-number number es entry)
+  where
+    by : (b : Bool) → nat_eq number e.elements.number ≡ b → cond b (Some e) (entry_with number es) ≡ Some entry
+        → (entry_with number es ≡ Some entry → entry.elements.number ≡ number) → entry.elements.number ≡ number
+    by true same found later = let is : e ≡ entry = cc in ap (λ (x : Entry). x.elements.number) (sym is) ∙ sym (eqb-true _ _ same)
+    by false other found later = later found

@@ -1,5 +1,5 @@
 -- The satellites of a catalogue, each with an element set and a name.
-use Rattle.std.specs.Prelude.{ℕ, ◌≤◌, nat_eq, nat_lt, Bool, not, List, length, map, All}
+use Rattle.std.specs.Prelude.{ℕ, ◌≤◌, ◌==◌, nat_eq, nat_lt, Bool, not, List, length, map, find, All, Option}
 use Rattle.std.specs.List.{list_any}
 use Rattle.catalogue.specs.declared.entry.Entry.{Entry}
 
@@ -25,6 +25,10 @@ numbers entries = map (λ entry. entry.elements.number) entries
 -- a satellite has this catalogue number
 abbrev pub has_number : ℕ → List Entry → Bool
 has_number number entries = list_any (nat_eq number) (numbers entries)
+
+-- the satellite with this catalogue number, if there is one
+abbrev pub entry_with : ℕ → List Entry → Option Entry
+entry_with number entries = find (λ entry. number == entry.elements.number) entries
 
 -- a catalogue has as many satellites as it may have
 abbrev pub is_full : List Entry → Bool

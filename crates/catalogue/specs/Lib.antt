@@ -1,6 +1,9 @@
+pub mod Choice
 pub mod Entries
 pub mod Lines
+pub mod MessageFile
 pub mod Names
 pub mod Place
 pub mod Reading
+pub mod Sets
 pub mod TwoLineFile

@@ -30,7 +30,8 @@ impl Model for Catalogue {
 }
 
 impl Catalogue {
-    ghost use Rattle.catalogue.specs.Entries.{IsCatalogue, IsName, has_number, is_full, most_entries};
+    ghost use Rattle.std.specs.Prelude.{option_copied, is_some, IfSome};
+    ghost use Rattle.catalogue.specs.Entries.{IsCatalogue, IsName, entry_with, has_number, is_full, most_entries};
 
     /// The catalogue of no satellite.
     pub fn empty(alloc: Global) -> Catalogue
@@ -95,5 +96,17 @@ impl Catalogue {
         ensures catalogue { IsCatalogue self.now }
     {
         &self.by_number[k as usize]
+    }
+
+    /// The satellite with this catalogue number, if there is one.
+    #[tactic(auto, using(crate::proofs::MapLemmas::lookup_entry))]
+    pub fn find(&self, number: u32) -> Option<&Entry>
+        ensures value { option_copied result ≡ entry_with number self.now }
+        ensures found { is_some result ≡ has_number number self.now }
+        ensures number { IfSome result (λ entry. entry.now.elements.number ≡ number) }
+        ensures catalogue { IsCatalogue self.now }
+        ensures name { IfSome result (λ entry. IsName entry.now.name) }
+    {
+        self.by_number.get(&number)
     }
 }

@@ -7,8 +7,10 @@ mod entry;
 mod fault;
 mod lines;
 mod name;
+mod read;
 mod two_line;
 
 pub use catalogue::Catalogue;
 pub use entry::Entry;
 pub use fault::{CatFault, SetFault};
+pub use read::read_catalogue;

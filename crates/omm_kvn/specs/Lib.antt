@@ -1,3 +1,4 @@
+pub mod Beginnings
 pub mod Digits
 pub mod Entries
 pub mod Found

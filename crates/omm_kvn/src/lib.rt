@@ -1,6 +1,7 @@
 //! Reads orbit mean-elements messages in keyword-value notation.
 #![tactic(auto)]
 
+mod beginning;
 mod digits;
 mod fault;
 mod found;
@@ -16,6 +17,7 @@ mod read;
 mod scan;
 mod unit;
 
+pub use beginning::begins_message;
 pub use fault::OmmFault;
 pub use key::Key;
 pub use message::Message;
