@@ -1,4 +1,10 @@
+pub mod ChoiceLemmas
+pub mod FoldLemmas
+pub mod KeepingLemmas
 pub mod LineLemmas
 pub mod MapLemmas
+pub mod MessageLemmas
 pub mod NameLemmas
+pub mod NearestLemmas
+pub mod ReadLemmas
 pub mod SetLemmas

@@ -1,6 +1,8 @@
 -- The first line of a text, and those behind it.
-use Rattle.std.proofs.Common.{◌≡◌, ℕ, suc, ◌+◌, ◌<◌, ◌≤◌, ◌==◌, arith, Bool, true, false, not, cond, List, [], ◌∷◌, length, take, drop, None, Some, refl, ap, ◌∙◌, ltb}
-use Rattle.std.proofs.lemmas.Bool.{ltb-true, ltb-false}
+use Rattle.std.proofs.Common.{◌≡◌, ℕ, suc, ◌+◌, ◌<◌, ◌≤◌, ◌==◌, arith, Bool, true, false, not, cond, List, [], ◌∷◌, ◌++◌, length, take, drop, None, Some, add-one, refl, ap, ◌∙◌, ltb}
+use Rattle.std.proofs.Math.Seq.{take-suc}
+use Rattle.std.proofs.lemmas.Bool.{eqb-true, ltb-true, ltb-false}
+use Rattle.std.proofs.lemmas.List.Quantifiers.{position-Some}
 use Rattle.std.specs.List.{position, position_or_len}
 use Rattle.omm_kvn.specs.Lines.{begun, split}
 use Rattle.tle_read.specs.TwoLine.{trimmed}
@@ -50,18 +52,31 @@ split-found text n at e h = h ∙ ap (λ k. take k text ∷ split (drop (k + 1) 
 past : {n m : ℕ} → n ≤ m → n < m + 1
 past h = omega arith
 
+-- the lines of a text whose first line ends there
+pub split-some : (at : ℕ) (text : List ℕ) → position is_end text ≡ Some at → split text ≡ take at text ∷ split (drop (at + 1) text)
+split-some at text e =
+    let place = found (ltb (position_or_len is_end text) (length text)) (position_or_len is_end text) at e in
+    split-found text (position_or_len is_end text) at place.1 (split-at text (ltb-true _ _ place.0))
+
+-- and of a text without a line feed
+pub split-none : (text : List ℕ) → position is_end text ≡ None → split text ≡ text ∷ []
+split-none text e = split-whole text (past (ltb-false _ _ (not_found _ _ e)))
+
+-- the line and the line feed behind it
+pub take-line : (at : ℕ) (text : List ℕ) → position is_end text ≡ Some at → take (at + 1) text ≡ take at text ++ 10 ∷ []
+take-line at text e =
+    let place = position-Some is_end text at 0 e in
+    rw (add-one) (take-suc text at 0 place.0) ∙ ap (λ byte. take at text ++ byte ∷ []) (eqb-true _ _ place.1)
+
 -- the written lines of a text whose first line ends there
 pub written-at : (number at : ℕ) (text : List ℕ) → position is_end text ≡ Some at
     → written_from number text ≡ behind (record { number = number; text = trimmed (take at text) }) (written_from (number + 1) (drop (at + 1) text))
-written-at number at text e =
-    let place = found (ltb (position_or_len is_end text) (length text)) (position_or_len is_end text) at e in
-    ap (λ lines. written (numbered number lines)) (split-found text (position_or_len is_end text) at place.1 (split-at text (ltb-true _ _ place.0)))
+written-at number at text e = ap (λ lines. written (numbered number lines)) (split-some at text e)
 
 -- and of a text without a line feed
 pub written-whole : (number : ℕ) (text : List ℕ) → position is_end text ≡ None
     → written_from number text ≡ behind (record { number = number; text = trimmed text }) []
-written-whole number text e =
-    ap (λ lines. written (numbered number lines)) (split-whole text (past (ltb-false _ _ (not_found _ _ e))))
+written-whole number text e = ap (λ lines. written (numbered number lines)) (split-none text e)
 
 -- the lines from a place on, where a line feed ends the first
 pub lines-at : (number : ℕ) (ended : Bool) (rest : List ℕ) (at : ℕ) (text next : List ℕ) → ended ≡ false → position is_end rest ≡ Some at

@@ -1,5 +1,5 @@
 -- The sets of lines, as they are read.
-use Rattle.std.proofs.Common.{◌≡◌, Bool, true, false, List, [], ◌∷◌, Result, Ok, Err, Some, cond, sym, ap, ◌∙◌}
+use Rattle.std.proofs.Common.{◌≡◌, ◌<◌, arith, length, refl, Bool, true, false, List, [], ◌∷◌, Result, Ok, Err, Some, cond, sym, ap, ◌∙◌}
 use Rattle.catalogue.specs.declared.entry.Entry.{Entry}
 use Rattle.catalogue.specs.declared.fault.CatFault.{CatFault}
 use Rattle.catalogue.specs.declared.fault.CatFault.TheVariants.{Odd, OutOfMemory}
@@ -40,3 +40,25 @@ sets_of_last line next e f = other (is_first line next) (is_name_of line next) t
 pub sets_of_named : (line next third : NumberedLine) (rest : List NumberedLine) → is_first line next ≡ false → is_name_of line next ≡ true → sets_of (line ∷ next ∷ third ∷ rest) ≡ pair line.text next third ∷ sets_of rest
 unfolding sets_of
 sets_of_named line next third rest e f = other (is_first line next) (is_name_of line next) true _ _ _ e f
+
+-- no line
+pub sets_of_none : sets_of [] ≡ []
+unfolding sets_of
+sets_of_none = refl
+
+-- one line alone
+pub sets_of_alone : (line : NumberedLine) → sets_of (line ∷ []) ≡ Err (Odd line.number) ∷ []
+unfolding sets_of
+sets_of_alone line = refl
+
+some_of_three : {A : Type 0} (first name : Bool) (x y z : A) (xs ys zs : List A) → 0 < length (cond first (x ∷ xs) (cond name (y ∷ ys) (z ∷ zs)))
+some_of_three true name x y z xs ys zs = omega arith
+some_of_three false true x y z xs ys zs = omega arith
+some_of_three false false x y z xs ys zs = omega arith
+
+-- where a line is left, so is a set or a fault
+pub sets_of_some : (line : NumberedLine) (rest : List NumberedLine) → 0 < length (sets_of (line ∷ rest))
+unfolding sets_of
+sets_of_some line [] = omega arith
+sets_of_some line (next ∷ []) = some_of_three (is_first line next) (is_name_of line next) _ _ _ _ _ _
+sets_of_some line (next ∷ third ∷ rest) = some_of_three (is_first line next) (is_name_of line next) _ _ _ _ _ _

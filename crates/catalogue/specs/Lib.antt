@@ -1,9 +1,13 @@
+pub mod Beginning
 pub mod Choice
 pub mod Entries
+pub mod Keeping
 pub mod Lines
 pub mod MessageFile
+pub mod MessagePlace
 pub mod Names
 pub mod Place
 pub mod Reading
 pub mod Sets
+pub mod Source
 pub mod TwoLineFile

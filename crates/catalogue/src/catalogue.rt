@@ -2,13 +2,14 @@
 ghost use Rattle.std.specs.Prelude.{◌≡◌, ◌<◌, ◌++◌, [], ◌∷◌, ◌||◌, not, true, false, length, slice_get, Some, Ok, OnOk, OnErr, Bool};
 
 use crate::entry::Entry;
-use elements::{Elements, OutOfMemory, Text};
+use crate::nearer::is_nearer;
+use elements::{Elements, Instant, OutOfMemory, Text};
 use indexmap::IndexMap;
 use std::alloc::Global;
 use std::marker::Model;
 
 /// The most satellites of a catalogue.
-const MOST_ENTRIES: usize = 16_384;
+pub(crate) const MOST_ENTRIES: usize = 16_384;
 
 /// At most 16,384 satellites, in the order in which they were added. They keep their own memory.
 #[derive(Drop)]
@@ -32,6 +33,7 @@ impl Model for Catalogue {
 impl Catalogue {
     ghost use Rattle.std.specs.Prelude.{option_copied, is_some, IfSome};
     ghost use Rattle.catalogue.specs.Entries.{IsCatalogue, IsName, entry_with, has_number, is_full, most_entries};
+    ghost use Rattle.catalogue.specs.Keeping.{is_wanted, with_entry, with_set};
 
     /// The catalogue of no satellite.
     pub fn empty(alloc: Global) -> Catalogue
@@ -76,6 +78,42 @@ impl Catalogue {
         ensures err { OnErr result (self.new ≡ self.old) }
     {
         match self.by_number.insert(entry.elements.number(), entry) {
+            Ok(_) => Ok(()),
+            Err(_) => Err(OutOfMemory),
+        }
+    }
+
+    /// Keeps a set, where its number is new or its epoch is nearer to the start than that of the one that is kept.
+    #[tactic(auto, using(crate::proofs::KeepingLemmas::wanted_is, crate::proofs::KeepingLemmas::unwanted_is))]
+    pub(crate) fn keep(&mut self, set: Entry, start: Instant) -> Result<(), OutOfMemory>
+        requires name { IsName set.name }
+        requires room { length self.old < most_entries }
+        ensures { OnOk result (self.new ≡ with_set start set self.old) }
+    {
+        if self.is_wanted(&set, start) {
+            self.put(set)
+        } else {
+            Ok(())
+        }
+    }
+
+    /// Whether a set is to be kept.
+    fn is_wanted(&self, set: &Entry, start: Instant) -> bool
+        ensures { result ≡ is_wanted start set.now (entry_with set.now.elements.number self.now) }
+    {
+        match self.find(set.elements.number()) {
+            Some(kept) => is_nearer(start, set, kept),
+            None => true,
+        }
+    }
+
+    /// Puts a set in the place of the one of its number, or at the end.
+    fn put(&mut self, set: Entry) -> Result<(), OutOfMemory>
+        requires name { IsName set.name }
+        requires room { length self.old < most_entries }
+        ensures { OnOk result (self.new ≡ with_entry set self.old) }
+    {
+        match self.by_number.insert(set.elements.number(), set) {
             Ok(_) => Ok(()),
             Err(_) => Err(OutOfMemory),
         }

@@ -1,5 +1,6 @@
 //! Names as they are printed.
 ghost use Rattle.std.specs.Prelude.{◌≡◌, map, IfOk};
+ghost use Rattle.catalogue.specs.Entries.{IsName};
 ghost use Rattle.catalogue.specs.Names as spec;
 
 use elements::{OutOfMemory, Text};
@@ -60,9 +61,10 @@ fn all_printed(alloc: Global, text: &[u8]) -> Result<Vec<u8>, OutOfMemory>
 /// The name that a text gives: without the spaces in front, then without a 0 and a space, then without the spaces that
 /// lead after that; of this the first 64 bytes, each that is not printable as a question mark. It is a dash where
 /// nothing is left.
-#[tactic(auto, unfolding(crate::specs::Names::name_of))]
+#[tactic(auto, using(crate::proofs::NameLemmas::is_name), unfolding(crate::specs::Names::name_of))]
 pub(crate) fn name_of(alloc: Global, text: &[u8]) -> Result<Text, OutOfMemory>
-    ensures { IfOk result (λ name. name ≡ spec.name_of text.now) }
+    ensures value { IfOk result (λ name. name ≡ spec.name_of text.now) }
+    ensures name { IfOk result (λ name. IsName name) }
 {
     let kept = first_bytes(without_spaces(without_zero(without_spaces(text))));
     if kept.is_empty() {

@@ -1,9 +1,11 @@
 //! The element sets of a file of two-line sets, one after another.
-ghost use Rattle.std.specs.Prelude.{◌≡◌, ◌∷◌, List, Result, Err};
+ghost use Rattle.std.specs.Prelude.{◌≡◌, ◌∷◌, List, Result, Some, Ok, Err, IfOk};
 ghost use Rattle.catalogue.specs.declared.entry.Entry.{Entry as EntryRecord};
 ghost use Rattle.catalogue.specs.declared.fault.CatFault.{CatFault as CatFaultRecord};
+ghost use Rattle.catalogue.specs.Entries.{IsName};
 ghost use Rattle.catalogue.specs.Place.{lines_at};
 ghost use Rattle.catalogue.specs.Reading.{IsReadOf};
+ghost use Rattle.catalogue.specs.Source.{IsNextOf};
 ghost use Rattle.catalogue.specs.TwoLineFile as spec;
 
 use crate::entry::Entry;
@@ -39,7 +41,8 @@ fn is_name_of(line: &Line, next: &Line) -> bool
 
 /// The set of two lines behind a name.
 fn pair(alloc: Global, name: &[u8], line1: &Line, line2: &Line) -> Result<Entry, CatFault>
-    ensures { ¬ (result ≡ Err CatFault.OutOfMemory) → result ≡ spec.pair name.now line1.now line2.now }
+    ensures value { ¬ (result ≡ Err CatFault.OutOfMemory) → result ≡ spec.pair name.now line1.now line2.now }
+    ensures name { IfOk result (λ set. IsName set.name) }
 {
     match read_pair(line1.text(), line2.text()) {
         Ok(elements) => match name_of(alloc, name) {
@@ -56,7 +59,8 @@ fn pair(alloc: Global, name: &[u8], line1: &Line, line2: &Line) -> Result<Entry,
 /// The set of two lines behind a name, where what was read of it is the first of the sets.
 #[tactic(auto, using(crate::proofs::SetLemmas::read_is))]
 fn read_pair_of(alloc: Global, name: &[u8], line1: &Line, line2: &Line) -> Result<Entry, CatFault>
-    ensures { (after : List (Result EntryRecord CatFaultRecord)) → IsReadOf result (spec.pair name.now line1.now line2.now ∷ after) after }
+    ensures read { (after : List (Result EntryRecord CatFaultRecord)) → IsReadOf result (spec.pair name.now line1.now line2.now ∷ after) after }
+    ensures name { IfOk result (λ set. IsName set.name) }
 {
     pair(alloc, name, line1, line2)
 }
@@ -64,7 +68,8 @@ fn read_pair_of(alloc: Global, name: &[u8], line1: &Line, line2: &Line) -> Resul
 /// The set that begins with these two lines, and its name.
 #[tactic(auto, using(crate::proofs::SetLemmas::sets_of_first, crate::proofs::SetLemmas::sets_of_odd, crate::proofs::SetLemmas::sets_of_last, crate::proofs::SetLemmas::sets_of_named))]
 fn set_from(alloc: Global, lines: &mut Lines, line: &Line, next: &Line) -> Result<Entry, CatFault>
-    ensures { IsReadOf result (spec.sets_of (line.now ∷ next.now ∷ lines_at lines.old)) (spec.sets_of (lines_at lines.new)) }
+    ensures read { IsReadOf result (spec.sets_of (line.now ∷ next.now ∷ lines_at lines.old)) (spec.sets_of (lines_at lines.new)) }
+    ensures name { IfOk result (λ set. IsName set.name) }
 {
     if is_first(line, next) {
         return read_pair_of(alloc, b"".as_slice(), line, next);
@@ -79,5 +84,31 @@ fn set_from(alloc: Global, lines: &mut Lines, line: &Line, next: &Line) -> Resul
         None => Err(CatFault::Odd {
             line: next.number(),
         }),
+    }
+}
+
+/// The set that begins with this line.
+#[tactic(auto, using(crate::proofs::SetLemmas::sets_of_alone))]
+fn set_at(alloc: Global, lines: &mut Lines, line: &Line) -> Result<Entry, CatFault>
+    ensures read { IsReadOf result (spec.sets_of (line.now ∷ lines_at lines.old)) (spec.sets_of (lines_at lines.new)) }
+    ensures name { IfOk result (λ set. IsName set.name) }
+{
+    match lines.next() {
+        Some(next) => set_from(alloc, lines, line, &next),
+        None => Err(CatFault::Odd {
+            line: line.number(),
+        }),
+    }
+}
+
+/// The next set, if a line is left.
+#[tactic(auto, using(crate::proofs::SetLemmas::sets_of_none, crate::proofs::SetLemmas::sets_of_some))]
+pub(crate) fn next_pair(alloc: Global, lines: &mut Lines) -> Option<Result<Entry, CatFault>>
+    ensures read { IsNextOf result (spec.sets_of (lines_at lines.old)) (spec.sets_of (lines_at lines.new)) }
+    ensures name { (set : EntryRecord) → result ≡ Some (Ok set) → IsName set.name }
+{
+    match lines.next() {
+        Some(line) => Some(set_at(alloc, lines, &line)),
+        None => None,
     }
 }
