@@ -26,11 +26,7 @@ pub fn run_over(
 }
 
 /// What the words of a line write over such a shelf, and the exit status.
-pub fn shown_by(
-    alloc: Global,
-    line: &[u8],
-    bytes: &[u8],
-) -> Result<(MemorySink, u8), AllocError> {
+pub fn shown_by(alloc: Global, line: &[u8], bytes: &[u8]) -> Result<(MemorySink, u8), AllocError> {
     let mut out = MemorySink::make(alloc, 1000)?;
     let outcome = run_over(alloc, line, bytes, &mut out)?;
     Ok((out, status(&outcome)))

@@ -1,5 +1,5 @@
 use crate::calls::shown_by;
-use crate::files::{VANGUARD1, VANGUARD2, VANGUARD_SHOWN, WORDS};
+use crate::files::{VANGUARD_SHOWN, VANGUARD1, VANGUARD2, WORDS};
 use std::test::Fail;
 
 #[test]

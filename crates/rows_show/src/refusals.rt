@@ -1,5 +1,5 @@
 use crate::calls::{shown_by, words_of};
-use crate::files::{VANGUARD, VANGUARD1, VANGUARD2, VANGUARD_SHOWN, WORDS};
+use crate::files::{VANGUARD, VANGUARD_SHOWN, VANGUARD1, VANGUARD2, WORDS};
 use outside_io::{MemoryShelf, MemorySink};
 use std::alloc::{AllocError, Global};
 use std::test::Fail;
@@ -104,11 +104,11 @@ fn a_file_has_at_most_16384_sets(rt: HostRuntime) -> Result<(), Fail> {
 
 #[test]
 fn a_file_has_at_most_16_mib(rt: HostRuntime) -> Result<(), Fail> {
-    let mut bytes = vec![in rt.alloc(); b'\n'; 16_777_216]?;
+    let mut bytes = vec![in rt.alloc(); b'x'; 16_777_216]?;
     let (out, status) = shown_by(rt.alloc(), WORDS, bytes.as_slice())?;
-    assert_eq!(rt; out.written(), b"error catalogue empty\n".as_slice());
+    assert_eq!(rt; out.written(), b"error catalogue odd 1\n".as_slice());
     assert_eq!(rt; status, 4);
-    bytes.push(b'\n')?;
+    bytes.push(b'x')?;
     let (out, status) = shown_by(rt.alloc(), WORDS, bytes.as_slice())?;
     assert_eq!(rt; out.written(), b"error toolong\n".as_slice());
     assert_eq!(rt; status, 7);
