@@ -6,6 +6,7 @@ pub mod Instants
 pub mod Keys
 pub mod Locate
 pub mod Moment
+pub mod Names
 pub mod Number
 pub mod Options
 pub mod Placed

@@ -3,6 +3,7 @@ ghost use Rattle.std.specs.Prelude.{◌≡◌, Some, IfOk};
 ghost use Rattle.pass_words.specs.Day.{day_request};
 ghost use Rattle.pass_words.specs.Found.{places_in};
 ghost use Rattle.pass_words.specs.Locate.{locate_request};
+ghost use Rattle.pass_words.specs.Names.{AreNamesIn};
 ghost use Rattle.pass_words.specs.Ranges.{IsInRange};
 ghost use Rattle.pass_words.specs.Show.{show_request};
 ghost use Rattle.pass_words.specs.Words.{command_value, day, locate, show};
@@ -64,6 +65,7 @@ fn locate_request(words: &[Text], found: &Found) -> Result<Request, WordFault>
 pub(crate) fn day(words: &[Text]) -> Result<Request, WordFault>
     ensures value { result ≡ command_value (Some day) words.now }
     ensures ranges { IfOk result IsInRange }
+    ensures names { IfOk result (AreNamesIn words.now) }
 {
     match placed(&DAY, words) {
         Ok(found) => day_request(words, &found),
@@ -75,6 +77,7 @@ pub(crate) fn day(words: &[Text]) -> Result<Request, WordFault>
 pub(crate) fn show(words: &[Text]) -> Result<Request, WordFault>
     ensures value { result ≡ command_value (Some show) words.now }
     ensures ranges { IfOk result IsInRange }
+    ensures names { IfOk result (AreNamesIn words.now) }
 {
     match placed(&SHOW, words) {
         Ok(found) => show_request(words, &found),
@@ -86,6 +89,7 @@ pub(crate) fn show(words: &[Text]) -> Result<Request, WordFault>
 pub(crate) fn locate(words: &[Text]) -> Result<Request, WordFault>
     ensures value { result ≡ command_value (Some locate) words.now }
     ensures ranges { IfOk result IsInRange }
+    ensures names { IfOk result (AreNamesIn words.now) }
 {
     match placed(&LOCATE, words) {
         Ok(found) => locate_request(words, &found),

@@ -1,5 +1,6 @@
 //! The words of the command line.
 ghost use Rattle.std.specs.Prelude.{◌≡◌, IfOk};
+ghost use Rattle.pass_words.specs.Names.{AreNamesIn};
 ghost use Rattle.pass_words.specs.Ranges.{IsInRange};
 ghost use Rattle.pass_words.specs.Words.{words_value};
 
@@ -13,6 +14,7 @@ use elements::Text;
 pub fn read_words(words: &[Text]) -> Result<Request, WordFault>
     ensures value { result ≡ words_value words.now }
     ensures ranges { IfOk result IsInRange }
+    ensures names { IfOk result (AreNamesIn words.now) }
 {
     match words {
         [] => Err(WordFault::Usage(UsageFault::NoCommand)),
