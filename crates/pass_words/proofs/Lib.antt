@@ -1,2 +1,4 @@
+pub mod NameLemmas
+pub mod NumberLemmas
 pub mod OptionsLemmas
 pub mod ScanLemmas

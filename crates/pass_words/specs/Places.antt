@@ -1,7 +1,7 @@
 -- Where the values of the keys stand.
 use Rattle.std.specs.Prelude.{Bool, true, false, Option, Some, None, if◌then◌else◌}
 use Rattle.pass_words.specs.declared.key.Opt.{Opt}
-use Rattle.pass_words.specs.declared.key.Opt.TheVariants.{Lat, Lon, Start, End, Res}
+use Rattle.pass_words.specs.declared.key.Opt.TheVariants.{Lat, Lon, Start, End, Res, Catalogue, Number, At}
 use Rattle.pass_words.specs.declared.part.Part.{Part}
 
 -- for each key the place of its value, if there is one
@@ -19,6 +19,9 @@ is_same Lon Lon = true
 is_same Start Start = true
 is_same End End = true
 is_same Res Res = true
+is_same Catalogue Catalogue = true
+is_same Number Number = true
+is_same At At = true
 is_same _ _ = false
 
 -- these places, and one more

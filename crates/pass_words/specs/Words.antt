@@ -6,12 +6,14 @@ use Rattle.pass_words.specs.declared.fault.UsageFault.TheVariants as faults
 use Rattle.pass_words.specs.declared.fault.WordFault.{WordFault}
 use Rattle.pass_words.specs.declared.fault.WordFault.TheVariants.{Usage}
 use Rattle.pass_words.specs.declared.key.Opt.{Opt}
-use Rattle.pass_words.specs.declared.key.Opt.TheVariants.{Lat, Lon, Start, End, Res}
+use Rattle.pass_words.specs.declared.key.Opt.TheVariants.{Lat, Lon, Start, End, Res, Catalogue, Number, At}
 use Rattle.pass_words.specs.declared.request.Request.{Request}
 use Rattle.pass_words.specs.Day.{day_request}
 use Rattle.pass_words.specs.Faults.{of_usage}
+use Rattle.pass_words.specs.Locate.{locate_request}
 use Rattle.pass_words.specs.Placed.{placed}
 use Rattle.pass_words.specs.Places.{Places}
+use Rattle.pass_words.specs.Show.{show_request}
 use Rattle.pass_words.specs.Steps.{◌>>=◌}
 
 -- a command: its word, the keys of its options in their order, and the request of words with places for all keys
@@ -24,9 +26,17 @@ pub record Command : Type 0 where
 abbrev pub day : Command
 day = record { word = codes "day"; keys = Lat ∷ Lon ∷ Start ∷ End ∷ Res ∷ []; request = day_request }
 
+-- the element sets of a file that are nearest to an instant
+abbrev pub show : Command
+show = record { word = codes "show"; keys = Catalogue ∷ Start ∷ []; request = show_request }
+
+-- the position of one satellite at an instant
+abbrev pub locate : Command
+locate = record { word = codes "locate"; keys = Catalogue ∷ Number ∷ At ∷ []; request = locate_request }
+
 -- all commands
 abbrev pub commands : List Command
-commands = day ∷ []
+commands = day ∷ show ∷ locate ∷ []
 
 -- the request of words for a command, if there is one
 abbrev pub command_value : Option Command → List (List ℕ) → Result Request WordFault

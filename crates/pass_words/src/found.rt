@@ -14,6 +14,9 @@ pub(crate) struct Found {
     start: Option<Part>,
     end: Option<Part>,
     res: Option<Part>,
+    catalogue: Option<Part>,
+    number: Option<Part>,
+    at: Option<Part>,
 }
 
 impl Found {
@@ -27,6 +30,9 @@ impl Found {
             start: None,
             end: None,
             res: None,
+            catalogue: None,
+            number: None,
+            at: None,
         }
     }
 
@@ -40,6 +46,9 @@ impl Found {
             Opt::Start => self.start,
             Opt::End => self.end,
             Opt::Res => self.res,
+            Opt::Catalogue => self.catalogue,
+            Opt::Number => self.number,
+            Opt::At => self.at,
         }
     }
 
@@ -53,6 +62,9 @@ impl Found {
             Opt::Start => self.start = Some(part),
             Opt::End => self.end = Some(part),
             Opt::Res => self.res = Some(part),
+            Opt::Catalogue => self.catalogue = Some(part),
+            Opt::Number => self.number = Some(part),
+            Opt::At => self.at = Some(part),
         }
     }
 }

@@ -15,6 +15,12 @@ pub enum Opt {
     End,
     /// The resolution of the window, in seconds.
     Res,
+    /// The file of element sets.
+    Catalogue,
+    /// The catalogue number of a satellite.
+    Number,
+    /// The instant of a position.
+    At,
 }
 
 impl Opt {
@@ -28,6 +34,9 @@ impl Opt {
             Opt::Start => "start",
             Opt::End => "end",
             Opt::Res => "res",
+            Opt::Catalogue => "catalogue",
+            Opt::Number => "number",
+            Opt::At => "at",
         }
     }
 }

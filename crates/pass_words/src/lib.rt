@@ -1,10 +1,13 @@
 //! The words of the command line: the request that they make, or their first fault.
 #![tactic(auto)]
 
+mod command;
 mod degrees;
 mod fault;
 mod found;
+mod instant;
 mod key;
+mod number;
 mod part;
 mod placed;
 mod request;
@@ -19,5 +22,6 @@ mod words;
 pub use fault::{UsageFault, WindowFault, WordFault};
 pub use key::Opt;
 pub use part::Part;
+pub use placed::text_at;
 pub use request::Request;
 pub use words::read_words;

@@ -29,8 +29,8 @@ pub(crate) fn placed(keys: &[Opt], words: &[Text]) -> Result<Found, UsageFault>
     }
 }
 
-/// The bytes of a part of the words.
-fn text_at(words: &[Text], part: Part) -> &[u8]
+/// The bytes of a part of the words, of which there are none where no word has its number.
+pub fn text_at(words: &[Text], part: Part) -> &[u8]
     ensures { result.now ≡ text_at words.now part }
 {
     match words.get(part.word.saturating_sub(1) as usize) {

@@ -1,5 +1,6 @@
 //! What the words ask for.
-use elements::{Decimal, Window};
+use crate::part::Part;
+use elements::{Decimal, Instant, Window};
 
 /// What the words ask for: a command and the values of its options.
 #[derive(Clone, Copy, Debug)]
@@ -9,5 +10,17 @@ pub enum Request {
         lat: Decimal,
         lon: Decimal,
         window: Window,
+    },
+    /// The element sets of a file that are nearest to an instant. The catalogue is the file's name.
+    Show {
+        catalogue: Part,
+        start: Instant,
+    },
+    /// The position of the satellite with this number at an instant, by its element set of a file that is nearest to it.
+    /// The catalogue is the file's name, and the number is below 1,000,000,000.
+    Locate {
+        catalogue: Part,
+        number: u32,
+        at: Instant,
     },
 }

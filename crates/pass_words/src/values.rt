@@ -1,18 +1,22 @@
 //! The values that the words give for keys.
-ghost use Rattle.std.specs.Prelude.{◌≡◌, IfOk};
+ghost use Rattle.std.specs.Prelude.{◌≡◌, ◌<◌, ◌^◌, IfOk};
 ghost use Rattle.decimals.specs.Decimal.{value};
 ghost use Rattle.elements.specs.Elements.{IsFromTo};
 ghost use Rattle.pass_words.specs.Found.{places_in};
-ghost use Rattle.pass_words.specs.Values.{degrees_given, window_given};
+ghost use Rattle.pass_words.specs.Values.{degrees_given, instant_given, number_given, part_given, window_given};
 
 use crate::degrees::degrees_read;
 use crate::fault::WordFault;
 use crate::found::Found;
+use crate::instant::instant_read;
 use crate::key::Opt;
+use crate::number::number;
+use crate::part::Part;
 use crate::placed::text_of;
 use crate::window::window;
+use civil_time::read_utc;
 use decimals::read_decimal;
-use elements::{Decimal, Text, Window};
+use elements::{Decimal, Instant, Text, Window};
 
 /// The decimal from one whole number to another that a key's value writes.
 pub(crate) fn degrees_given(
@@ -41,4 +45,32 @@ pub(crate) fn window_given(words: &[Text], found: &Found) -> Result<Window, Word
         Ok(window) => Ok(window),
         Err(fault) => Err(WordFault::Window(fault)),
     }
+}
+
+/// The instant of a key's value.
+pub(crate) fn instant_given(words: &[Text], found: &Found, key: Opt) -> Result<Instant, WordFault>
+    ensures { result ≡ instant_given words.now (places_in found.now) key }
+{
+    match instant_read(read_utc(text_of(words, found, key))) {
+        Ok(instant) => Ok(instant),
+        Err(fault) => Err(WordFault::Window(fault)),
+    }
+}
+
+/// The number that a key's value writes in one to nine digits.
+pub(crate) fn number_given(words: &[Text], found: &Found, key: Opt) -> Result<u32, WordFault>
+    ensures value { result ≡ number_given words.now (places_in found.now) key }
+    ensures range { IfOk result (λ number. number < 10 ^ 9) }
+{
+    match number(key, text_of(words, found, key)) {
+        Ok(number) => Ok(number),
+        Err(fault) => Err(WordFault::Usage(fault)),
+    }
+}
+
+/// Where a key's value stands.
+pub(crate) fn part_given(found: &Found, key: Opt) -> Part
+    ensures { result ≡ part_given (places_in found.now) key }
+{
+    found.place(key).unwrap_or(Part { word: 0, from: 0 })
 }

@@ -1,4 +1,4 @@
-use crate::words::{answer, day_words, words_of};
+use crate::words::{Asked, answer, day_words, words_of};
 use pass_words::{Opt, UsageFault, WindowFault, WordFault};
 use std::test::Fail;
 
@@ -133,7 +133,7 @@ fn places_in_their_ranges_are_taken(rt: HostRuntime) -> Result<(), Fail> {
     ];
     for (row, &(lat, lon, wanted_lat, wanted_lon)) in rows.iter().enumerate() {
         let words = day_words(rt.alloc(), lat, lon, START, HOUR, b"1")?;
-        let wanted = Ok((wanted_lat, wanted_lon, (START_NANOS, 36_000_000, 10_000)));
+        let wanted = Ok(Asked::Day((wanted_lat, wanted_lon, (START_NANOS, 36_000_000, 10_000))));
         assert_eq!(rt; answer(words.as_slice()), wanted, "row {row}");
     }
     Ok(())
@@ -176,7 +176,7 @@ fn windows_of_up_to_ten_days_are_taken(rt: HostRuntime) -> Result<(), Fail> {
     ];
     for (row, &(start, last, res, nanos, ticks, resolution)) in rows.iter().enumerate() {
         let words = day_words(rt.alloc(), b"0", b"0", start, last, res)?;
-        let wanted = Ok(((0, 0), (0, 0), (nanos, ticks, resolution)));
+        let wanted = Ok(Asked::Day(((0, 0), (0, 0), (nanos, ticks, resolution))));
         assert_eq!(rt; answer(words.as_slice()), wanted, "row {row}");
     }
     Ok(())
@@ -193,7 +193,7 @@ fn options_stand_in_any_order_and_in_two_words(rt: HostRuntime) -> Result<(), Fa
     ];
     for (row, &line) in lines.iter().enumerate() {
         let words = words_of(rt.alloc(), line)?;
-        let wanted = Ok(((0, 0), (7, 0), (START_NANOS, 36_000_000, 50_000)));
+        let wanted = Ok(Asked::Day(((0, 0), (7, 0), (START_NANOS, 36_000_000, 50_000))));
         assert_eq!(rt; answer(words.as_slice()), wanted, "row {row}");
     }
     Ok(())

@@ -4,6 +4,8 @@
 #[cfg(test)]
 mod day_values;
 #[cfg(test)]
+mod file_values;
+#[cfg(test)]
 mod options;
 #[cfg(test)]
 mod sizes;

@@ -1,4 +1,4 @@
-use crate::words::{answer, day_words};
+use crate::words::{Asked, answer, day_words};
 use elements::Text;
 use pass_words::{Opt, UsageFault, WindowFault, WordFault};
 use std::alloc::{AllocError, Global};
@@ -43,7 +43,7 @@ fn words_of_a_megabyte_are_read_to_their_end(rt: HostRuntime) -> Result<(), Fail
     let mut long = vec![in alloc; b'0'; 1_000_000]?;
     // A million zeros write the number 0.
     let words = day_words(alloc, long.as_slice(), b"7", START, HOUR, b"1")?;
-    let wanted = Ok(((0, 0), (7, 0), (14_817_600_000_000_000, 36_000_000, 10_000)));
+    let wanted = Ok(Asked::Day(((0, 0), (7, 0), (14_817_600_000_000_000, 36_000_000, 10_000))));
     assert_eq!(rt; answer(words.as_slice()), wanted);
     let words = day_words(alloc, b"0", b"0", START, long.as_slice(), b"1")?;
     assert_eq!(rt;

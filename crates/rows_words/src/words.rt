@@ -1,5 +1,5 @@
 use elements::{Decimal, Text, Window};
-use pass_words::{Request, WordFault, read_words};
+use pass_words::{Part, Request, WordFault, read_words};
 use std::alloc::{AllocError, Global};
 
 /// The words of a line, which are parted by one blank each.
@@ -58,17 +58,47 @@ fn numbers(window: Window) -> (i64, u64, u64) {
     (window.start().nanos(), window.ticks(), window.resolution())
 }
 
-/// The numbers of a request.
-fn numbers_of(request: Request) -> Numbers {
+/// What the words ask for, each instant in nanoseconds from 2000-01-01T12:00:00 UTC.
+#[derive(Clone, Copy, Debug, PartialEq, Eq)]
+pub enum Asked {
+    Day(Numbers),
+    Show {
+        catalogue: Part,
+        start: i64,
+    },
+    Locate {
+        catalogue: Part,
+        number: u32,
+        at: i64,
+    },
+}
+
+/// What a request asks for.
+fn values_of(request: Request) -> Asked {
     match request {
-        Request::Day { lat, lon, window } => (digits(lat), digits(lon), numbers(window)),
+        Request::Day { lat, lon, window } => {
+            Asked::Day((digits(lat), digits(lon), numbers(window)))
+        }
+        Request::Show { catalogue, start } => Asked::Show {
+            catalogue,
+            start: start.nanos(),
+        },
+        Request::Locate {
+            catalogue,
+            number,
+            at,
+        } => Asked::Locate {
+            catalogue,
+            number,
+            at: at.nanos(),
+        },
     }
 }
 
-/// The numbers that the words ask for, or their fault.
-pub fn answer(words: &[Text]) -> Result<Numbers, WordFault> {
+/// What the words ask for, or their fault.
+pub fn answer(words: &[Text]) -> Result<Asked, WordFault> {
     match read_words(words) {
-        Ok(request) => Ok(numbers_of(request)),
+        Ok(request) => Ok(values_of(request)),
         Err(fault) => Err(fault),
     }
 }

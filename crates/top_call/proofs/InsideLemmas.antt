@@ -1,11 +1,11 @@
 -- The ticks of a certified answer lie in its window.
-use Rattle.std.proofs.Common.{◌≡◌, arith, ℕ, ◌<◌, ◌≤◌, List, [], ◌∷◌, All, le_trans, le_refl}
+use Rattle.std.proofs.Common.{◌≡◌, arith, ℕ, ◌≤◌, List, [], ◌∷◌, All}
 use Rattle.std.proofs.lemmas.List.Elements.{All-cons}
 use Rattle.sgp4_model.specs.Certified.{IsCertified, Leads, TrackRecord}
 use Rattle.sgp4_model.specs.Records.{AnswerRecord, spans, unresolved, full}
 use Rattle.sgp4_model.specs.declared.span.Span.{Span}
 use Rattle.elements.specs.Window.{WindowRecord}
-use Rattle.top_call.specs.Day.{AnswerIsInside, IsDayResult, IsInside}
+use Rattle.top_call.specs.Day.{IsDayResult, IsInside}
 
 -- spans that lead from one tick to another lie below the other
 leads_up : (from to : ℕ) (list : List Span) → Leads from list to → from ≤ to

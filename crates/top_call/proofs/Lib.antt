@@ -1,3 +1,6 @@
+mod FileLemmas
 mod InsideLemmas
 mod PrintedLemmas
 mod RequestLemmas
+mod SetLineLemmas
+mod SpanLemmas

@@ -1,5 +1,5 @@
 -- What a product of a request says of the words that make the request.
-use Rattle.std.proofs.Common.{◌≡◌, ℕ, ◌≤◌, List, sym, subst, ap, ◌∙◌}
+use Rattle.std.proofs.Common.{◌≡◌, ℕ, ◌≤◌, List, Option, sym, subst, ap, ◌∙◌}
 use Rattle.std.specs.Prelude.{Ok}
 use Rattle.pass_words.specs.Words.{words_value}
 use Rattle.pass_words.specs.declared.request.Request.{Request}
@@ -21,11 +21,15 @@ resolved track resolution slots used (unresolved from to) list h n =
     n from (subst (λ t. t ≤ track.ticks) h.0.longer h.0.inside) (subst (λ t. Throughout from t track.grazes) h.0.longer h.0.grazes)
 resolved track resolution slots used (full at) list h n = tt
 
-pub product_of_words : (words : List (List ℕ)) (request : Request) (product : Product) → words_value words ≡ Ok request → IsOfRequest request product → IsProductOf words product
-product_of_words words (requests.Day lat lon window) (products.Day day) e h = record {
+pub product_of_words : (held : List ℕ → Option (List ℕ)) (words : List (List ℕ)) (request : Request) (product : Product) → words_value words ≡ Ok request → IsOfRequest held words request product → IsProductOf held words product
+product_of_words held words (requests.Day lat lon window) (products.Day day) e h = record {
   lat = lat;
   lon = lon;
   of_words = e ∙ ap (λ w. Ok (requests.Day lat lon w)) (sym h.window_is);
   certified = h.certified;
   resolved = resolved _ _ _ _ _ _ h.certified;
 }
+product_of_words held words (requests.Day lat lon window) (products.Shown entries) e h = absurd h
+product_of_words held words (requests.Show catalogue start) (products.Day day) e h = absurd h
+product_of_words held words (requests.Show catalogue start) (products.Shown entries) e h = record { catalogue = catalogue; start = start; of_words = e; answer = h }
+product_of_words held words (requests.Locate catalogue number at) product e h = absurd h

@@ -4,7 +4,6 @@ use Rattle.decimals.specs.Decimal.{DecimalRecord, value}
 use Rattle.elements.specs.Window.{WindowRecord}
 use Rattle.pass_text.specs.DayLayout.{day_layout}
 use Rattle.pass_words.specs.Words.{words_value}
-use Rattle.pass_words.specs.declared.request.Request.{Request}
 use Rattle.pass_words.specs.declared.request.Request.TheVariants as requests
 use Rattle.sgp4_model.specs.Certified.{IsCertified, TrackRecord}
 use Rattle.sgp4_model.specs.DaySolution.{day_track}

@@ -1,5 +1,10 @@
+pub mod Causes
 pub mod Day
+pub mod Files
 pub mod Outcome
 pub mod Printed
+pub mod Refused
+pub mod Shelf
+pub mod Shown
 pub mod Status
 pub mod Whole

@@ -1,5 +1,5 @@
 -- What a call that prints did to its output.
-use Rattle.std.specs.Prelude.{◌≡◌, ℕ, List}
+use Rattle.std.specs.Prelude.{◌≡◌, ◌≤◌, ℕ, List}
 use Rattle.std.specs.declared.option.Option.{Option}
 use Rattle.outside_io.specs.Counts.{Rose}
 use Rattle.outside_io.specs.Written.{Grew, GrewByFront}
@@ -13,3 +13,4 @@ pub record IsWhole (before after : ℕ) (old now : Option (List ℕ)) (text : Li
 pub record IsCutOff (before after : ℕ) (old now : Option (List ℕ)) (text : List ℕ) : Type 0 where
   pub front : GrewByFront old now text
   pub rose : Rose before after
+  pub later : before ≤ after

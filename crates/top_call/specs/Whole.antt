@@ -1,5 +1,5 @@
 -- Whether an answer is spans.
-use Rattle.std.specs.Prelude.{ℕ, Bool, true, false}
+use Rattle.std.specs.Prelude.{Bool, true, false}
 use Rattle.sgp4_model.specs.Records.{AnswerRecord, spans, unresolved, full}
 
 -- a row that tells its spans

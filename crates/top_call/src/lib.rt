@@ -2,8 +2,12 @@
 #![tactic(auto)]
 
 mod day;
+mod load;
 mod outcome;
 mod print;
+mod print_show;
+mod refuse;
+mod show;
 mod top;
 mod track;
 

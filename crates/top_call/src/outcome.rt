@@ -3,6 +3,7 @@ ghost use Rattle.std.specs.Prelude.{◌≡◌};
 ghost use Rattle.top_call.specs.Status.{is_whole, status_of};
 
 use crate::day::DayResult;
+use catalogue::{CatFault, Catalogue};
 use pass_words::{UsageFault, WindowFault};
 use span_bisect::TrackAnswer;
 
@@ -11,6 +12,8 @@ use span_bisect::TrackAnswer;
 pub enum Product {
     /// The daylight of a place.
     Day(DayResult),
+    /// The satellites of a file, each by its element set that is nearest to an instant.
+    Shown(Catalogue),
 }
 
 /// What a run comes to.
@@ -22,14 +25,21 @@ pub enum Outcome {
     Usage(UsageFault),
     /// The words make no window.
     BadWindow(WindowFault),
+    /// The file that the words name is no catalogue. The fault is never want of memory.
+    BadCatalogue(CatFault),
+    /// A file that the words name could not be read.
+    ReadFault,
+    /// A file that the words name has more than 16 MiB.
+    TooLong,
     /// The product was made, and a write failed.
     WriteFault { product: Product },
     /// There was no memory for the product.
     OutOfMemory,
 }
 
-/// The exit status of an outcome: 0 where the product is whole, 1 where it is not, 2 for the words, 3 for the window, 8
-/// for a write that failed, 9 for want of memory.
+/// The exit status of an outcome: 0 where the product is whole, 1 where it is not, 2 for the words, 3 for the window, 4
+/// for a file that is no catalogue, 6 for one that could not be read, 7 for one that is too long, 8 for a write that
+/// failed, 9 for want of memory.
 pub fn status(outcome: &Outcome) -> u8
     ensures { result ≡ status_of outcome.now }
 {
@@ -37,6 +47,9 @@ pub fn status(outcome: &Outcome) -> u8
         Outcome::Done { product } => { if is_whole(product) { 0 } else { 1 } }
         Outcome::Usage(_) => 2,
         Outcome::BadWindow(_) => 3,
+        Outcome::BadCatalogue(_) => 4,
+        Outcome::ReadFault => 6,
+        Outcome::TooLong => 7,
         Outcome::WriteFault { .. } => 8,
         Outcome::OutOfMemory => 9,
     }
@@ -48,5 +61,6 @@ fn is_whole(product: &Product) -> bool
 {
     match product {
         Product::Day(day) => day.is_whole(),
+        Product::Shown(_) => true,
     }
 }

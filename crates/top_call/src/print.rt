@@ -70,7 +70,7 @@ fn print_answer<K: Sink>(day: &DayResult, out: &mut K) -> Result<(), Failed>
 }
 
 /// Puts one line.
-fn put_line<K: Sink>(line: &[u8], out: &mut K) -> Result<(), Failed>
+pub(crate) fn put_line<K: Sink>(line: &[u8], out: &mut K) -> Result<(), Failed>
     ensures whole { OnOk result (IsWhole (K.faults out.old) (K.faults out.new) (K.written out.old) (K.written out.new) line.now) }
     ensures cut { OnErr result (IsCutOff (K.faults out.old) (K.faults out.new) (K.written out.old) (K.written out.new) line.now) }
 {

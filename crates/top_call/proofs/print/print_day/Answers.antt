@@ -8,4 +8,4 @@ returns-in-Err-print_window-clause-cut g c =
 
 pub returns-in-Err-clause-cut : goal.returns-in-Err-clause-cut
 returns-in-Err-clause-cut g c =
-    cut_first (codes "PASSDAY 1\n") _ (record { front = c.in-Err.ensures.front; rose = c.in-Err.ensures.failed })
+    cut_first (codes "PASSDAY 1\n") _ (record { front = c.in-Err.ensures.front; rose = c.in-Err.ensures.failed; later = c.in-Err.ensures.later })

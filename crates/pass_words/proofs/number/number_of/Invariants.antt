@@ -1,0 +1,9 @@
+use Rattle.std.proofs.Common.{◌≡◌, ◌≤◌, ◌+◌, ◌^◌, drop}
+use Rattle.std.specs.Str.Parse.{digits_value, digits_value_after}
+use Rattle.pass_words.proofs.number.number_of.Given as goal
+
+-- the digits read so far, and room for the others
+abbrev pub invariant-loop-digit : goal.invariant-loop-digit
+invariant-loop-digit l =
+    (digits_value_after 10 l.number (drop l.digit-index l.digits) ≡ digits_value 10 l.digits)
+    × (l.number + 1 ≤ 10 ^ l.digit-index)

@@ -1,0 +1,33 @@
+use elements::Text;
+use outside_io::{MemoryShelf, MemorySink};
+use std::alloc::{AllocError, Global};
+use top_call::{Outcome, run, status};
+
+/// The words of a line, which are parted by one blank each.
+pub fn words_of(alloc: Global, line: &[u8]) -> Result<Vec<Text>, AllocError> {
+    let mut words = Vec::new(alloc);
+    for word in line.split(|byte| *byte == b' ') {
+        words.push(Text::copy(alloc, word)?)?;
+    }
+    Ok(words)
+}
+
+/// What the words of a line come to over this output and a shelf that holds one file, `a`, with these bytes.
+pub fn run_over(
+    alloc: Global,
+    line: &[u8],
+    bytes: &[u8],
+    out: &mut MemorySink,
+) -> Result<Outcome, AllocError> {
+    let words = words_of(alloc, line)?;
+    let mut shelf = MemoryShelf::make(alloc)?;
+    shelf.add(b"a", bytes)?;
+    Ok(run(alloc, words.as_slice(), &mut shelf, out))
+}
+
+/// What the words of a line write over such a shelf, and the exit status.
+pub fn shown_by(alloc: Global, line: &[u8], bytes: &[u8]) -> Result<(MemorySink, u8), AllocError> {
+    let mut out = MemorySink::make(alloc, 1000)?;
+    let outcome = run_over(alloc, line, bytes, &mut out)?;
+    Ok((out, status(&outcome)))
+}
