@@ -22,18 +22,17 @@ all_of (set ∷ sets) = do
   others ← all_of sets
   Ok (first ∷ others)
 
--- these sets, where the file does not go on behind them
+-- at most so many sets: the first fault among the first so many, and else all of them, if no further one is there
 abbrev pub at_most : ℕ → List (Result Entry CatFault) → Result (List Entry) CatFault
 at_most most sets = do
   read ← all_of (take most sets)
   if nat_lt most (length sets) then Err TooMany else Ok read
 
--- the same of at least one set
+-- the same of a file that has a written line, and so a set or a fault
 abbrev pub some_of : List (Result Entry CatFault) → Result (List Entry) CatFault
 some_of [] = Err Empty
 some_of (set ∷ sets) = at_most most_entries (set ∷ sets)
 
--- the element sets of a file: no line is written, or the first fault among the first 16,384 sets is the answer, or the
--- file goes on behind as many, or these are all
+-- the element sets of a file, of which there may be 16,384, or its first fault
 unfoldable pub element_sets : List ℕ → Result (List Entry) CatFault
 element_sets bytes = some_of (sets_in bytes)

@@ -3,3 +3,15 @@
 
 #[cfg(test)]
 mod adding;
+#[cfg(test)]
+mod choosing;
+#[cfg(test)]
+mod cuts;
+#[cfg(test)]
+mod files;
+#[cfg(test)]
+mod many;
+#[cfg(test)]
+mod messages;
+#[cfg(test)]
+mod texts;

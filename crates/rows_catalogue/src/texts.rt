@@ -1,0 +1,90 @@
+//! The lines of the tests, and files of them.
+use catalogue::{CatFault, Catalogue, read_catalogue};
+use elements::Instant;
+use std::alloc::{AllocError, Global};
+
+/// Vanguard 1, one of the published test cases of the orbit model.
+pub(crate) const VANGUARD1: &[u8; 69] =
+    b"1 00005U 58002B   00179.78495062  .00000023  00000-0  28098-4 0  4753";
+
+pub(crate) const VANGUARD2: &[u8; 69] =
+    b"2 00005  34.2682 348.7242 1859667 331.7664  19.3264 10.82419157413667";
+
+/// The International Space Station on 20 September 2008.
+pub(crate) const STATION1: &[u8; 69] =
+    b"1 25544U 98067A   08264.51782528 -.00002182  00000-0 -11606-4 0  2927";
+
+pub(crate) const STATION2: &[u8; 69] =
+    b"2 25544  51.6416 247.4627 0006703 130.5360 325.0288 15.72125391563537";
+
+/// 2008-09-20T00:00:00, in nanoseconds from 2000-01-01T12:00:00.
+pub(crate) const START: i64 = 275_140_800_000_000_000;
+
+/// A message of the station with this number, name and epoch, of 19 lines.
+pub(crate) fn message(
+    alloc: Global,
+    number: &str,
+    name: &str,
+    epoch: &str,
+) -> Result<Vec<u8>, AllocError> {
+    let mut bytes = Vec::new(alloc);
+    for (before, value, behind) in [
+        (
+            "CCSDS_OMM_VERS = 2.0\nCOMMENT keywords in another order\nCREATION_DATE = 2008-09-21T00:00:00\nORIGINATOR =\nOBJECT_NAME = ",
+            name,
+            "\n",
+        ),
+        (
+            "OBJECT_ID = 1998-067A\nCENTER_NAME = EARTH\nREF_FRAME = TEME\nTIME_SYSTEM = UTC\nMEAN_ELEMENT_THEORY = SGP4\nBSTAR = -.11606E-4 [1/ER]\nEPOCH = ",
+            epoch,
+            "\n",
+        ),
+        (
+            "NORAD_CAT_ID = ",
+            number,
+            "\nMEAN_MOTION = 15.72125391 [rev/day]\nECCENTRICITY = 0.0006703\nINCLINATION = 51.6416 [deg]\nRA_OF_ASC_NODE = 247.4627 [deg]\nARG_OF_PERICENTER = 130.5360 [deg]\nMEAN_ANOMALY = 325.0288 [deg]\n",
+        ),
+    ] {
+        bytes.extend_from_slice(before.as_bytes())?;
+        bytes.extend_from_slice(value.as_bytes())?;
+        bytes.extend_from_slice(behind.as_bytes())?;
+    }
+    Ok(bytes)
+}
+
+/// These pieces behind one another, each with a line feed behind it.
+pub(crate) fn lines(alloc: Global, pieces: &[&[u8]]) -> Result<Vec<u8>, AllocError> {
+    let mut bytes = Vec::new(alloc);
+    for piece in pieces {
+        bytes.extend_from_slice(piece)?;
+        bytes.push(b'\n')?;
+    }
+    Ok(bytes)
+}
+
+/// The catalogue of a file that is not too long, at a start in the years that have instants.
+pub(crate) fn read(alloc: Global, bytes: &[u8], start: i64) -> Result<Catalogue, CatFault> {
+    if bytes.len() > 16_777_216 || !Instant::is_in_years(start) {
+        return Err(CatFault::OutOfMemory);
+    }
+    read_catalogue(alloc, bytes, Instant::from_nanos(start))
+}
+
+/// The only satellite of a file: its number, its epoch, and whether it has this name.
+pub(crate) fn only(alloc: Global, bytes: &[u8], start: i64, name: &[u8]) -> (u32, i64, bool) {
+    match read(alloc, bytes, start) {
+        Ok(catalogue) => {
+            if catalogue.len() == 1 {
+                let entry = catalogue.entry(0);
+                (
+                    entry.elements.number(),
+                    entry.elements.epoch().nanos(),
+                    entry.name.bytes() == name,
+                )
+            } else {
+                (0, 1, false)
+            }
+        }
+        Err(_) => (0, 0, false),
+    }
+}
