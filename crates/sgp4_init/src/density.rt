@@ -43,7 +43,8 @@ pub(crate) fn density_terms<E: Enc>(motion: &Recovered<E>) -> Density<E>
     let xi = number::<E>(1, 1).divided(above);
     let share = above.divided(above.plus(ea));
     let xp = share.divided(above_base(motion.rp));
-    let psi = size(less_square(eta));
+    let rest = less_square(eta);
+    let psi = size(rest);
     Density {
         xi,
         eta,
