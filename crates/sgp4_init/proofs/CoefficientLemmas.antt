@@ -19,7 +19,7 @@ use Rattle.sgp4_model.specs.Wgs72.{j3}
 use Rattle.sgp4_shape.specs.Covering.{unit_minutes}
 use Rattle.sgp4_init.specs.Numerals.{of_ratio, or_zero}
 use Rattle.fixed_iv.proofs.Held.{held_at}
-use Rattle.sgp4_init.proofs.DensityLemmas.{coef_power, part}
+use Rattle.sgp4_init.proofs.DensityLemmas.{coef_power, part_of_radius}
 use Rattle.sgp4_init.proofs.EquationLemmas.{equal_by, inverse_product, j2_inverse, left_factor, none, right_factor, ◌⊞◌}
 
 -- ---- numerals that allow 0 too
@@ -99,12 +99,12 @@ module _ (z : EpochRecord) (m : MotionRecord) (d : DensityRecord) (g : DragRecor
   axis_divides r = not_zero (subst Positive (ring (m.a ∷ []) {x = m.a -ℚ zero_ℚ} {y = m.a} (search reads depth 90) tt) (positive_gap r.a_is.root))
 
   pub xmcof_is : (b e : ℚ) → z.bstar ≡ b → m.e ≡ e → near_circle <ℚ m.e → RecoversMotion m →
-      ratio (negsuc 27999) 6378135 /ℚ m.a *ℚ (part *ℚ d.xi *ℚ (part *ℚ d.xi) *ℚ (part *ℚ d.xi)) *ℚ (b /ℚ e) /ℚ m.e ≡ k.xmcof
+      ratio (negsuc 27999) 6378135 /ℚ m.a *ℚ (part_of_radius *ℚ d.xi *ℚ (part_of_radius *ℚ d.xi) *ℚ (part_of_radius *ℚ d.xi)) *ℚ (b /ℚ e) /ℚ m.e ≡ k.xmcof
   xmcof_is b e of_b of_e h recovers =
-      ap (λ t. ratio (negsuc 27999) 6378135 /ℚ m.a *ℚ (part *ℚ d.xi *ℚ (part *ℚ d.xi) *ℚ (part *ℚ d.xi)) *ℚ (b /ℚ t) /ℚ m.e) (sym of_e)
-      ∙ ring (d.xi ∷ b ∷ inverse m.a ∷ inverse m.e ∷ []) {y = neg_ℚ (ratio (pos 2) 3) *ℚ (part *ℚ (part *ℚ d.xi) ^ℚ 3) *ℚ b *ℚ (inverse m.e *ℚ (inverse m.a *ℚ inverse m.e))} (search reads depth 90) tt
-      ∙ ap (λ t. neg_ℚ (ratio (pos 2) 3) *ℚ (part *ℚ (part *ℚ d.xi) ^ℚ 3) *ℚ b *ℚ (inverse m.e *ℚ t)) (xi_over_eta h recovers)
-      ∙ ring (d.xi ∷ b ∷ inverse m.e ∷ inverse d.eta ∷ []) {y = neg_ℚ (ratio (pos 2) 3) *ℚ (part *ℚ d.xi *ℚ (part *ℚ d.xi) *ℚ (part *ℚ d.xi *ℚ (part *ℚ d.xi))) *ℚ b *ℚ (inverse m.e *ℚ inverse d.eta)} (search reads depth 90) tt
+      ap (λ t. ratio (negsuc 27999) 6378135 /ℚ m.a *ℚ (part_of_radius *ℚ d.xi *ℚ (part_of_radius *ℚ d.xi) *ℚ (part_of_radius *ℚ d.xi)) *ℚ (b /ℚ t) /ℚ m.e) (sym of_e)
+      ∙ ring (d.xi ∷ b ∷ inverse m.a ∷ inverse m.e ∷ []) {y = neg_ℚ (ratio (pos 2) 3) *ℚ (part_of_radius *ℚ (part_of_radius *ℚ d.xi) ^ℚ 3) *ℚ b *ℚ (inverse m.e *ℚ (inverse m.a *ℚ inverse m.e))} (search reads depth 90) tt
+      ∙ ap (λ t. neg_ℚ (ratio (pos 2) 3) *ℚ (part_of_radius *ℚ (part_of_radius *ℚ d.xi) ^ℚ 3) *ℚ b *ℚ (inverse m.e *ℚ t)) (xi_over_eta h recovers)
+      ∙ ring (d.xi ∷ b ∷ inverse m.e ∷ inverse d.eta ∷ []) {y = neg_ℚ (ratio (pos 2) 3) *ℚ (part_of_radius *ℚ d.xi *ℚ (part_of_radius *ℚ d.xi) *ℚ (part_of_radius *ℚ d.xi *ℚ (part_of_radius *ℚ d.xi))) *ℚ b *ℚ (inverse m.e *ℚ inverse d.eta)} (search reads depth 90) tt
       ∙ ap (λ t. neg_ℚ (ratio (pos 2) 3) *ℚ t *ℚ b *ℚ (inverse m.e *ℚ inverse d.eta)) (coef_power m d terms)
       ∙ ap (λ t. neg_ℚ (ratio (pos 2) 3) *ℚ d.coef *ℚ t *ℚ (inverse m.e *ℚ inverse d.eta)) (sym of_b)
       ∙ ap (λ t. neg_ℚ (ratio (pos 2) 3) *ℚ d.coef *ℚ z.bstar *ℚ t) (sym (inverse_product (left_factor d.eta divides) (right_factor m.e divides) divides))

@@ -13,9 +13,9 @@ use Rattle.sgp4_shape.specs.declared.consts.Consts.{Consts}
 use Rattle.sgp4_shape.specs.Covering.{CoversConsts}
 use Rattle.sgp4_shape.specs.HeldConsts.{ConstReach, IsHeldConsts}
 use Rattle.sgp4_motion.specs.HeldMotion.{reach_motion}
-use Rattle.sgp4_init.specs.HighPerigee.{HasHighPerigee}
+use Rattle.sgp4_init.specs.TakenMotion.{IsTakenMotion}
 
-pub high_perigee : (m : MotionRecord) → whole 300 ≤ℚ perigee_of m → Inside reach_motion.e.range m.e → HasHighPerigee m
+pub high_perigee : (m : MotionRecord) → whole 300 ≤ℚ perigee_of m → Inside reach_motion.e.range m.e → IsTakenMotion m
 unfolding ratio
 high_perigee m h e =
     let low : ratio (pos 0) 10 ≤ℚ m.e = e.low in

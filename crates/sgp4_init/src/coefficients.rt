@@ -17,7 +17,7 @@ ghost use Rattle.sgp4_motion.specs.HeldMotion.{IsHeldMotion, MotionReach};
 ghost use Rattle.sgp4_init.specs.HeldCoefficients.{IsHeldCoefficients, reach_coefficients, reach_omgcof, reach_xmcof};
 ghost use Rattle.sgp4_init.specs.HeldDensity.{DensityReach, IsHeldDensity};
 ghost use Rattle.sgp4_init.specs.HeldEpoch.{IsHeldEpoch};
-ghost use Rattle.sgp4_init.specs.HighPerigee.{HasHighPerigee};
+ghost use Rattle.sgp4_init.specs.TakenMotion.{IsTakenMotion};
 ghost use Rattle.sgp4_init.specs.Numerals.{given_angle};
 
 use crate::density::Density;
@@ -60,7 +60,7 @@ pub(crate) fn divided_terms<E: Enc>(
     cos_w0: E,
 ) -> (E, E)
     requires { ¬ IsDragged (record_of_elements set.now) }
-    ensures { (h : Place) (z : EpochRecord) (m : MotionRecord) (d : DensityRecord) (g : DragRecord) (f : RatesRecord) (k : CoefficientRecord) (r : MotionReach) (s : DensityReach) → z.bstar ≡ value set.now.bstar → m.e ≡ value set.now.ecc → HasHighPerigee m → RecoversMotion m → IsDensityTerms m d → IsPerigeeDragCoefficient m d g → IsRemainingCoefficients z m d g f k → IsHeldMotion E.covers E.extent E.tells motion.now h m r → IsHeldDensity E.covers E.extent E.tells density.now h d s → IsHeld E.covers E.extent E.tells cos_w0 h z.of_w0.cosine (turned given_angle) → IsHeld E.covers E.extent E.tells result.0 h (unit_minutes 1 *ℚ k.omgcof) (reach_omgcof r s) × IsHeld E.covers E.extent E.tells result.1 h k.xmcof (reach_xmcof r s) }
+    ensures { (h : Place) (z : EpochRecord) (m : MotionRecord) (d : DensityRecord) (g : DragRecord) (f : RatesRecord) (k : CoefficientRecord) (r : MotionReach) (s : DensityReach) → z.bstar ≡ value set.now.bstar → m.e ≡ value set.now.ecc → IsTakenMotion m → RecoversMotion m → IsDensityTerms m d → IsPerigeeDragCoefficient m d g → IsRemainingCoefficients z m d g f k → IsHeldMotion E.covers E.extent E.tells motion.now h m r → IsHeldDensity E.covers E.extent E.tells density.now h d s → IsHeld E.covers E.extent E.tells cos_w0 h z.of_w0.cosine (turned given_angle) → IsHeld E.covers E.extent E.tells result.0 h (unit_minutes 1 *ℚ k.omgcof) (reach_omgcof r s) × IsHeld E.covers E.extent E.tells result.1 h k.xmcof (reach_xmcof r s) }
 {
     let ecc = set.ecc();
     if ecc.is_at_most(Decimal::of_scaled(1, 4)) {
@@ -86,7 +86,7 @@ pub(crate) fn remaining_coefficients<E: Enc>(
     c1: E,
 ) -> Coefficients<E>
     requires { ¬ IsDragged (record_of_elements set.now) }
-    ensures { (h : Place) (z : EpochRecord) (m : MotionRecord) (d : DensityRecord) (g : DragRecord) (f : RatesRecord) (k : CoefficientRecord) (r : MotionReach) (s : DensityReach) (r_w1 r_c1 : Reach) → z.bstar ≡ value set.now.bstar → m.e ≡ value set.now.ecc → HasHighPerigee m → RecoversMotion m → IsDensityTerms m d → IsPerigeeDragCoefficient m d g → IsRemainingCoefficients z m d g f k → IsHeldEpoch E.covers E.extent E.tells epoch.now h z → IsHeldMotion E.covers E.extent E.tells motion.now h m r → IsHeldDensity E.covers E.extent E.tells density.now h d s → IsHeld E.covers E.extent E.tells w1 h (unit_minutes 1 *ℚ f.w1) r_w1 → IsHeld E.covers E.extent E.tells c1 h (unit_minutes 1 *ℚ g.c1) r_c1 → IsHeldCoefficients E.covers E.extent E.tells result h k (reach_coefficients r s r_w1 r_c1) }
+    ensures { (h : Place) (z : EpochRecord) (m : MotionRecord) (d : DensityRecord) (g : DragRecord) (f : RatesRecord) (k : CoefficientRecord) (r : MotionReach) (s : DensityReach) (r_w1 r_c1 : Reach) → z.bstar ≡ value set.now.bstar → m.e ≡ value set.now.ecc → IsTakenMotion m → RecoversMotion m → IsDensityTerms m d → IsPerigeeDragCoefficient m d g → IsRemainingCoefficients z m d g f k → IsHeldEpoch E.covers E.extent E.tells epoch.now h z → IsHeldMotion E.covers E.extent E.tells motion.now h m r → IsHeldDensity E.covers E.extent E.tells density.now h d s → IsHeld E.covers E.extent E.tells w1 h (unit_minutes 1 *ℚ f.w1) r_w1 → IsHeld E.covers E.extent E.tells c1 h (unit_minutes 1 *ℚ g.c1) r_c1 → IsHeldCoefficients E.covers E.extent E.tells result h k (reach_coefficients r s r_w1 r_c1) }
 {
     let (omgcof, xmcof) = divided_terms(set, motion, density, epoch.cos_w0);
     Coefficients {
