@@ -1,11 +1,11 @@
 -- The cosine of an angle of at most 175 degrees is well above -1.
-use Rattle.std.proofs.Common.{◌≡◌, ℕ, zero, suc, [], ◌∷◌, ◌^◌, ℤ, pos, negsuc, arith}
+use Rattle.std.proofs.Common.{◌≡◌, ℕ, zero, suc, [], ◌∷◌, ◌*◌, ◌-◌, ◌^◌, ℤ, pos, negsuc, arith}
 use Rattle.std.proofs.lemmas.Int.{ints}
 use Rattle.exact.specs.Rational.{ℚ, ratio, of_int, neg_ℚ, zero_ℚ, one_ℚ, ◌+ℚ◌, ◌-ℚ◌, ◌*ℚ◌, ◌≤ℚ◌}
 use Rattle.exact.proofs.RationalRing.{ring, reads}
 use Rattle.exact.proofs.Integers.{of_int_is, of_int_le}
-use Rattle.exact.proofs.Order.{gap, known, le_by, same_sign, ◌⊕◌, ◌⊗◌}
-use Rattle.exact.proofs.Bounds.{square}
+use Rattle.exact.proofs.Order.{NonNeg, gap, known, le_by, same_sign, ◌⊕◌, ◌⊗◌}
+use Rattle.exact.proofs.Bounds.{by_sign, square}
 use Rattle.exact.proofs.Strict.{not_both, positive_known}
 use Rattle.sgp4_model.specs.Angle.{IsNear, IsPi, IsReduced, IsSinCos, Pair, part, quadrant, reduced, turned}
 use Rattle.sgp4_model.specs.AngleSums.{cosine_sum, sine_sum}
@@ -13,6 +13,7 @@ use Rattle.sgp4_model.proofs.AngleSpan.{reduced_angle, sine_between}
 use Rattle.sgp4_model.proofs.CosineLaws.{cosine_low}
 use Rattle.sgp4_model.proofs.FarQuarters.{pi_above_3}
 use Rattle.sgp4_model.proofs.Horner.{cosine_horner, cosine_rest}
+use Rattle.sgp4_model.proofs.Pythagoras.{squares_add_up_to_one}
 use Rattle.sgp4_model.proofs.Rests.{IsAngle, cosine_rest_high}
 
 abbrev limit : ℚ
@@ -31,7 +32,7 @@ module _ (pi x c : ℚ) (is_pi : IsPi pi) (low : zero_ℚ ≤ℚ x) (high : x �
       (search reads depth 90) tt)
     where
       at_most : of_int (negsuc n) ≤ℚ ratio (negsuc 0) 1
-      at_most = rw of_int_is at (of_int_le {negsuc n} {negsuc 0} (omega (arith, ints)))
+      at_most = rw (of_int_is (negsuc 0)) at (of_int_le {a = negsuc n} {b = negsuc 0} (omega (arith, ints)))
 
   -- three quarter turns or more
   above_two : (n : ℕ) → IsReduced pi (reduced pi x (pos (suc (suc (suc n))))) → ⊥
@@ -42,7 +43,7 @@ module _ (pi x c : ℚ) (is_pi : IsPi pi) (low : zero_ℚ ≤ℚ x) (high : x �
       (search reads depth 90) tt)
     where
       at_least : ratio (pos 3) 1 ≤ℚ of_int (pos (suc (suc (suc n))))
-      at_least = rw of_int_is at (of_int_le {pos 3} {pos (suc (suc (suc n)))} (omega (arith, ints)))
+      at_least = rw (of_int_is (pos 3)) at (of_int_le {a = pos 3} {b = pos (suc (suc (suc n)))} (omega (arith, ints)))
 
   -- a sine is at most 0.7854
   quarter : (y s : ℚ) → IsAngle y → IsNear (part 60) s (sine_sum y) → limit ≤ℚ one_ℚ +ℚ neg_ℚ s
@@ -75,3 +76,21 @@ module _ (pi x c : ℚ) (is_pi : IsPi pi) (low : zero_ℚ ≤ℚ x) (high : x �
 -- 1 and the cosine of an angle of at most 175 degrees are at least 0.0034
 pub cosine_above : (pi x s c : ℚ) → IsPi pi → IsSinCos pi x s c → zero_ℚ ≤ℚ x → x ≤ℚ ratio (pos 175) 180 *ℚ pi → ratio (pos 34) 10000 ≤ℚ one_ℚ +ℚ c
 cosine_above pi x s c is_pi h low high = by_quarter pi x c is_pi low high h.quarters h.inner h.in_range h.sine_near h.cosine_near h.cosine_is
+
+-- and its sine is at most 24.5 times that
+pub sine_within : (pi x s c : ℚ) → IsPi pi → IsSinCos pi x s c → ratio (pos 34) 10000 ≤ℚ one_ℚ +ℚ c → IsNear (ratio (pos 49) 2 *ℚ (one_ℚ +ℚ c)) s zero_ℚ
+sine_within pi x s c is_pi h least =
+    record {
+      above = by_sign (ratio (pos 49) 2 *ℚ (one_ℚ +ℚ c) -ℚ s) (λ n. le_by (s ∷ c ∷ []) n (search reads depth 90) tt) (λ n. le_by (s ∷ c ∷ []) (known 22517998136852480000000 3387832819689377491 ⊗ n ⊗ (n ⊗ (n ⊕ known 2 1 ⊗ bound_low) ⊕ rest)) (search reads depth 90) tt);
+      below = by_sign (ratio (pos 49) 2 *ℚ (one_ℚ +ℚ c) +ℚ s) (λ n. le_by (s ∷ c ∷ []) n (search reads depth 90) tt) (λ n. le_by (s ∷ c ∷ []) (known 22517998136852480000000 3387832819689377491 ⊗ n ⊗ (n ⊗ (n ⊕ known 2 1 ⊗ bound_low) ⊕ rest)) (search reads depth 90) tt);
+    }
+  where
+    sum_low : NonNeg (one_ℚ +ℚ c)
+    sum_low = same_sign (ring (c ∷ []) (search reads depth 90) tt) (gap least ⊕ known 34 10000)
+
+    bound_low : NonNeg (ratio (pos 49) 2 *ℚ (one_ℚ +ℚ c))
+    bound_low = known 49 2 ⊗ sum_low
+
+    -- what the squares leave of the square of the sine, less that of its bound
+    rest : NonNeg (one_ℚ +ℚ part 58 -ℚ (s *ℚ s +ℚ c *ℚ c) +ℚ ratio (pos 2405) 4 *ℚ ((one_ℚ +ℚ c) *ℚ (one_ℚ +ℚ c -ℚ ratio (pos 34) 10000)) +ℚ ratio (pos 177) 4000 *ℚ (one_ℚ +ℚ c -ℚ ratio (pos 34) 10000))
+    rest = gap (squares_add_up_to_one pi x s c is_pi h).above ⊕ known 2405 4 ⊗ (sum_low ⊗ gap least) ⊕ known 177 4000 ⊗ gap least

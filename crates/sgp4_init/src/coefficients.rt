@@ -89,12 +89,14 @@ pub(crate) fn remaining_coefficients<E: Enc>(
     ensures { (h : Place) (z : EpochRecord) (m : MotionRecord) (d : DensityRecord) (g : DragRecord) (f : RatesRecord) (k : CoefficientRecord) (r : MotionReach) (s : DensityReach) (r_w1 r_c1 : Reach) → z.bstar ≡ value set.now.bstar → m.e ≡ value set.now.ecc → IsTakenMotion m → RecoversMotion m → IsDensityTerms m d → IsPerigeeDragCoefficient m d g → IsRemainingCoefficients z m d g f k → IsHeldEpoch E.covers E.extent E.tells epoch.now h z → IsHeldMotion E.covers E.extent E.tells motion.now h m r → IsHeldDensity E.covers E.extent E.tells density.now h d s → IsHeld E.covers E.extent E.tells w1 h (unit_minutes 1 *ℚ f.w1) r_w1 → IsHeld E.covers E.extent E.tells c1 h (unit_minutes 1 *ℚ g.c1) r_c1 → IsHeldCoefficients E.covers E.extent E.tells result h k (reach_coefficients r s r_w1 r_c1) }
 {
     let (omgcof, xmcof) = divided_terms(set, motion, density, epoch.cos_w0);
+    let sum = number::<E>(1, 1).plus(motion.c);
+    let tangent = motion.si.divided(sum);
     Coefficients {
         omgcof,
         xmcof,
         nodecf: node_drag(motion.bb, w1, motion.c, c1),
         t2cof: longitude_square(c1),
-        xlcof: longitude_bend(motion.si, motion.c),
+        xlcof: longitude_bend(motion.c, tangent),
         aycof: eccentricity_bend(motion.si),
         delmo: anomaly_cube(density.eta, epoch.cos_m0),
     }
