@@ -1,10 +1,10 @@
 -- The remaining coefficients, in the order in which the code forms them.
-use Rattle.std.proofs.Common.{◌≡◌, sym, ap, ◌∙◌, subst, [], ◌∷◌, arith, Bool, ◌^◌, pos, negsuc}
+use Rattle.std.proofs.Common.{◌≡◌, sym, ap, ◌∙◌, subst, [], ◌∷◌, arith, Bool, ◌*◌, ◌-◌, ◌^◌, pos, negsuc}
 use Rattle.exact.specs.Rational.{ℚ, ratio, inverse, ◌+ℚ◌, ◌-ℚ◌, ◌*ℚ◌, ◌/ℚ◌, ◌^ℚ◌, neg_ℚ, one_ℚ, zero_ℚ, ◌≤ℚ◌, ◌<ℚ◌}
 use Rattle.exact.proofs.RationalRing.{ring, reads}
 use Rattle.exact.proofs.Intervals.{Inside, between, inside, max_holds, min_holds}
-use Rattle.exact.proofs.Order.{le_by, le_trans, gap}
-use Rattle.exact.proofs.Strict.{Positive, le_of_lt, mul_inverse, not_zero, positive_gap}
+use Rattle.exact.proofs.Order.{known, le_by, le_trans, gap, ◌⊕◌}
+use Rattle.exact.proofs.Strict.{Positive, le_of_lt, le_quotient, mul_inverse, not_zero, positive_gap, positive_known, quotient_le}
 use Rattle.fixed_iv.specs.Extent.{Extent}
 use Rattle.fixed_iv.specs.Place.{Place}
 use Rattle.fixed_iv.specs.Reach.{Reach, IsHeld}
@@ -18,9 +18,10 @@ use Rattle.sgp4_model.specs.Rates.{RatesRecord}
 use Rattle.sgp4_model.specs.Wgs72.{j3}
 use Rattle.sgp4_shape.specs.Covering.{unit_minutes}
 use Rattle.sgp4_init.specs.Numerals.{of_ratio, or_zero}
+use Rattle.sgp4_init.specs.TakenMotion.{IsTakenMotion}
 use Rattle.fixed_iv.proofs.Held.{held_at}
-use Rattle.sgp4_init.proofs.DensityLemmas.{coef_power, part}
-use Rattle.sgp4_init.proofs.EquationLemmas.{equal_by, inverse_product, j2_inverse, left_factor, none, right_factor, ◌⊞◌}
+use Rattle.sgp4_init.proofs.DensityLemmas.{coef_power, part_of_radius}
+use Rattle.sgp4_init.proofs.EquationLemmas.{equal_by, inverse_product, j2_inverse, left_factor, none, positive_from, right_factor, ◌⊞◌}
 
 -- ---- numerals that allow 0 too
 pub held_or_zero : {A : Type 0} {C : A → Place → ℚ → Type 0} {E : A → Extent} {told : Bool} {a : A} {h : Place} {x : ℚ} {r : Reach} →
@@ -57,6 +58,19 @@ eccentric_inside {x} {y} e h k =
     inside (pos 1) 10000 (pos 2000) 10000
     (rw e (le_by (y ∷ []) (gap (le_of_lt h)) (search reads depth 90) tt))
     (le_by (x ∷ []) (gap k) (search reads depth 90) tt)
+
+-- ---- the tangent of half of the inclination
+pub sum_inside : (m : MotionRecord) → IsTakenMotion m → Inside (between (pos 34) 10000 (pos 20001) 10000) (one_ℚ +ℚ m.c)
+sum_inside m t = inside (pos 34) 10000 (pos 20001) 10000 t.above (le_by (m.c ∷ []) (gap t.cosine.above ⊕ known (2 ^ 60 - 10 ^ 4) (10 ^ 4 * 2 ^ 60)) (search reads depth 90) tt)
+
+pub tangent_inside : (m : MotionRecord) → IsTakenMotion m → Inside (between (negsuc 48) 2 (pos 49) 2) (m.si /ℚ (one_ℚ +ℚ m.c))
+tangent_inside m t =
+    inside (negsuc 48) 2 (pos 49) 2
+    (le_quotient positive (le_by (m.si ∷ m.c ∷ []) (gap t.bend.below) (search reads depth 90) tt))
+    (quotient_le positive (le_by (m.si ∷ m.c ∷ []) (gap t.bend.above) (search reads depth 90) tt))
+  where
+    positive : Positive (one_ℚ +ℚ m.c)
+    positive = positive_from (positive_known 33 10000) t.above
 
 -- ---- the coefficients
 module _ (z : EpochRecord) (m : MotionRecord) (d : DensityRecord) (g : DragRecord) (f : RatesRecord) (k : CoefficientRecord) (terms : IsDensityTerms m d) (remaining : IsRemainingCoefficients z m d g f k) where
@@ -99,12 +113,12 @@ module _ (z : EpochRecord) (m : MotionRecord) (d : DensityRecord) (g : DragRecor
   axis_divides r = not_zero (subst Positive (ring (m.a ∷ []) {x = m.a -ℚ zero_ℚ} {y = m.a} (search reads depth 90) tt) (positive_gap r.a_is.root))
 
   pub xmcof_is : (b e : ℚ) → z.bstar ≡ b → m.e ≡ e → near_circle <ℚ m.e → RecoversMotion m →
-      ratio (negsuc 27999) 6378135 /ℚ m.a *ℚ (part *ℚ d.xi *ℚ (part *ℚ d.xi) *ℚ (part *ℚ d.xi)) *ℚ (b /ℚ e) /ℚ m.e ≡ k.xmcof
+      ratio (negsuc 27999) 6378135 /ℚ m.a *ℚ (part_of_radius *ℚ d.xi *ℚ (part_of_radius *ℚ d.xi) *ℚ (part_of_radius *ℚ d.xi)) *ℚ (b /ℚ e) /ℚ m.e ≡ k.xmcof
   xmcof_is b e of_b of_e h recovers =
-      ap (λ t. ratio (negsuc 27999) 6378135 /ℚ m.a *ℚ (part *ℚ d.xi *ℚ (part *ℚ d.xi) *ℚ (part *ℚ d.xi)) *ℚ (b /ℚ t) /ℚ m.e) (sym of_e)
-      ∙ ring (d.xi ∷ b ∷ inverse m.a ∷ inverse m.e ∷ []) {y = neg_ℚ (ratio (pos 2) 3) *ℚ (part *ℚ (part *ℚ d.xi) ^ℚ 3) *ℚ b *ℚ (inverse m.e *ℚ (inverse m.a *ℚ inverse m.e))} (search reads depth 90) tt
-      ∙ ap (λ t. neg_ℚ (ratio (pos 2) 3) *ℚ (part *ℚ (part *ℚ d.xi) ^ℚ 3) *ℚ b *ℚ (inverse m.e *ℚ t)) (xi_over_eta h recovers)
-      ∙ ring (d.xi ∷ b ∷ inverse m.e ∷ inverse d.eta ∷ []) {y = neg_ℚ (ratio (pos 2) 3) *ℚ (part *ℚ d.xi *ℚ (part *ℚ d.xi) *ℚ (part *ℚ d.xi *ℚ (part *ℚ d.xi))) *ℚ b *ℚ (inverse m.e *ℚ inverse d.eta)} (search reads depth 90) tt
+      ap (λ t. ratio (negsuc 27999) 6378135 /ℚ m.a *ℚ (part_of_radius *ℚ d.xi *ℚ (part_of_radius *ℚ d.xi) *ℚ (part_of_radius *ℚ d.xi)) *ℚ (b /ℚ t) /ℚ m.e) (sym of_e)
+      ∙ ring (d.xi ∷ b ∷ inverse m.a ∷ inverse m.e ∷ []) {y = neg_ℚ (ratio (pos 2) 3) *ℚ (part_of_radius *ℚ (part_of_radius *ℚ d.xi) ^ℚ 3) *ℚ b *ℚ (inverse m.e *ℚ (inverse m.a *ℚ inverse m.e))} (search reads depth 90) tt
+      ∙ ap (λ t. neg_ℚ (ratio (pos 2) 3) *ℚ (part_of_radius *ℚ (part_of_radius *ℚ d.xi) ^ℚ 3) *ℚ b *ℚ (inverse m.e *ℚ t)) (xi_over_eta h recovers)
+      ∙ ring (d.xi ∷ b ∷ inverse m.e ∷ inverse d.eta ∷ []) {y = neg_ℚ (ratio (pos 2) 3) *ℚ (part_of_radius *ℚ d.xi *ℚ (part_of_radius *ℚ d.xi) *ℚ (part_of_radius *ℚ d.xi *ℚ (part_of_radius *ℚ d.xi))) *ℚ b *ℚ (inverse m.e *ℚ inverse d.eta)} (search reads depth 90) tt
       ∙ ap (λ t. neg_ℚ (ratio (pos 2) 3) *ℚ t *ℚ b *ℚ (inverse m.e *ℚ inverse d.eta)) (coef_power m d terms)
       ∙ ap (λ t. neg_ℚ (ratio (pos 2) 3) *ℚ d.coef *ℚ t *ℚ (inverse m.e *ℚ inverse d.eta)) (sym of_b)
       ∙ ap (λ t. neg_ℚ (ratio (pos 2) 3) *ℚ d.coef *ℚ z.bstar *ℚ t) (sym (inverse_product (left_factor d.eta divides) (right_factor m.e divides) divides))

@@ -9,7 +9,7 @@ use Rattle.exact.proofs.Strict.{Positive, le_of_lt, le_quotient, mul_inverse, no
 use Rattle.sgp4_model.specs.Density.{DensityRecord, IsDensityTerms}
 use Rattle.sgp4_model.specs.MeanMotion.{MotionRecord, RecoversMotion}
 use Rattle.sgp4_model.specs.Wgs72.{density_base_km, density_top_km, earth_radius_km}
-use Rattle.sgp4_init.specs.HighPerigee.{HasHighPerigee}
+use Rattle.sgp4_init.specs.TakenMotion.{IsTakenMotion}
 use Rattle.sgp4_init.proofs.EquationLemmas.{equal_by, inverse_is, none, positive_from, radius_inverse, right_factor, ◌⊞◌}
 use Rattle.sgp4_init.proofs.SizeLemmas.{abs_of_high}
 
@@ -17,19 +17,19 @@ use Rattle.sgp4_init.proofs.SizeLemmas.{abs_of_high}
 abbrev pub base : ℚ
 base = ratio (pos 6456135) 6378135
 
-abbrev pub part : ℚ
-part = ratio (pos 42000) 6378135
+abbrev pub part_of_radius : ℚ
+part_of_radius = ratio (pos 42000) 6378135
 
 pub base_is : one_ℚ +ℚ density_base_km /ℚ earth_radius_km ≡ base
 base_is = ap (λ t. one_ℚ +ℚ density_base_km *ℚ t) radius_inverse ∙ ring [] (search reads depth 90) tt
 
-part_is : (density_top_km -ℚ density_base_km) /ℚ earth_radius_km ≡ part
+part_is : (density_top_km -ℚ density_base_km) /ℚ earth_radius_km ≡ part_of_radius
 part_is = ap (λ t. (density_top_km -ℚ density_base_km) *ℚ t) radius_inverse ∙ ring [] (search reads depth 90) tt
 
-pub coef_power : (m : MotionRecord) (d : DensityRecord) → IsDensityTerms m d → part *ℚ d.xi *ℚ (part *ℚ d.xi) *ℚ (part *ℚ d.xi *ℚ (part *ℚ d.xi)) ≡ d.coef
-coef_power m d terms = ring (d.xi ∷ []) {y = part ^ℚ 4 *ℚ d.xi ^ℚ 4} (search reads depth 90) tt ∙ ap (λ t. t *ℚ d.xi ^ℚ 4) (sym (terms.qs_is ∙ ap (λ t. t ^ℚ 4) part_is)) ∙ sym terms.coef_is
+pub coef_power : (m : MotionRecord) (d : DensityRecord) → IsDensityTerms m d → part_of_radius *ℚ d.xi *ℚ (part_of_radius *ℚ d.xi) *ℚ (part_of_radius *ℚ d.xi *ℚ (part_of_radius *ℚ d.xi)) ≡ d.coef
+coef_power m d terms = ring (d.xi ∷ []) {y = part_of_radius ^ℚ 4 *ℚ d.xi ^ℚ 4} (search reads depth 90) tt ∙ ap (λ t. t *ℚ d.xi ^ℚ 4) (sym (terms.qs_is ∙ ap (λ t. t ^ℚ 4) part_is)) ∙ sym terms.coef_is
 
-module _ (m : MotionRecord) (d : DensityRecord) (recovers : RecoversMotion m) (high : HasHighPerigee m) (terms : IsDensityTerms m d) where
+module _ (m : MotionRecord) (d : DensityRecord) (recovers : RecoversMotion m) (high : IsTakenMotion m) (terms : IsDensityTerms m d) where
   abbrev above : ℚ
   above = m.a -ℚ base
 
@@ -43,25 +43,25 @@ module _ (m : MotionRecord) (d : DensityRecord) (recovers : RecoversMotion m) (h
   s_known = terms.s_is ∙ base_is
 
   -- ---- signs
-  product_not_negative : NonNeg product
+  pub product_not_negative : NonNeg product
   product_not_negative = not_negative high.least ⊗ not_negative (le_of_lt recovers.a_is.root)
 
-  low_least : ratio (pos 222000) 6378135 ≤ℚ low
+  pub low_least : ratio (pos 222000) 6378135 ≤ℚ low
   low_least = le_by (m.rp ∷ []) (known 1000 6378135 ⊗ gap high.perigee) (search reads depth 90) tt
 
-  low_positive : Positive low
+  pub low_positive : Positive low
   low_positive = positive_from (positive_known 221999 6378135) low_least
 
-  low_is : low ≡ above -ℚ product
+  pub low_is : low ≡ above -ℚ product
   low_is = ap (λ t. t -ℚ base) recovers.rp_is ∙ ring (m.a ∷ m.e ∷ []) (search reads depth 90) tt
 
   above_is : low +ℚ product ≡ above
   above_is = ap (λ t. t +ℚ product) low_is ∙ ring (m.a ∷ m.e ∷ []) (search reads depth 90) tt
 
-  above_positive : Positive above
+  pub above_positive : Positive above
   above_positive = subst Positive above_is (positive_sum low_positive product_not_negative)
 
-  sum_positive : Positive (above +ℚ product)
+  pub sum_positive : Positive (above +ℚ product)
   sum_positive = positive_sum above_positive product_not_negative
 
   -- ---- the divisors
@@ -118,7 +118,7 @@ module _ (m : MotionRecord) (d : DensityRecord) (recovers : RecoversMotion m) (h
           (search reads depth 90) tt
           ∙ xi_is
 
-  pub coef_is : part *ℚ d.xi *ℚ (part *ℚ d.xi) *ℚ (part *ℚ d.xi *ℚ (part *ℚ d.xi)) ≡ d.coef
+  pub coef_is : part_of_radius *ℚ d.xi *ℚ (part_of_radius *ℚ d.xi) *ℚ (part_of_radius *ℚ d.xi *ℚ (part_of_radius *ℚ d.xi)) ≡ d.coef
   coef_is = coef_power m d terms
 
   divisor_inverse : inverse (d.psi ^ℚ 3 *ℚ d.root_of_psi) ≡ inverse d.psi ^ℚ 3 *ℚ inverse d.root_of_psi
@@ -129,21 +129,21 @@ module _ (m : MotionRecord) (d : DensityRecord) (recovers : RecoversMotion m) (h
       ⊞ none (mul_inverse d.root_of_psi root_divides) one_ℚ)
       (search reads depth 90) tt)
 
-  pub coef1_is : part *ℚ (d.xi /ℚ d.psi) *ℚ (part *ℚ (d.xi /ℚ d.psi)) *ℚ (part *ℚ (d.xi /ℚ d.psi) *ℚ (part *ℚ (d.xi /ℚ d.psi))) *ℚ (d.psi /ℚ d.root_of_psi) ≡ d.coef1
+  pub coef1_is : part_of_radius *ℚ (d.xi /ℚ d.psi) *ℚ (part_of_radius *ℚ (d.xi /ℚ d.psi)) *ℚ (part_of_radius *ℚ (d.xi /ℚ d.psi) *ℚ (part_of_radius *ℚ (d.xi /ℚ d.psi))) *ℚ (d.psi /ℚ d.root_of_psi) ≡ d.coef1
   coef1_is =
       equal_by (d.xi ∷ d.psi ∷ inverse d.psi ∷ inverse d.root_of_psi ∷ [])
-      {y = part *ℚ d.xi *ℚ (part *ℚ d.xi) *ℚ (part *ℚ d.xi *ℚ (part *ℚ d.xi)) *ℚ (inverse d.psi ^ℚ 3 *ℚ inverse d.root_of_psi)}
-      (none (mul_inverse d.psi (not_zero psi_positive)) (part ^ℚ 4 *ℚ d.xi ^ℚ 4 *ℚ inverse d.psi ^ℚ 3 *ℚ inverse d.root_of_psi))
+      {y = part_of_radius *ℚ d.xi *ℚ (part_of_radius *ℚ d.xi) *ℚ (part_of_radius *ℚ d.xi *ℚ (part_of_radius *ℚ d.xi)) *ℚ (inverse d.psi ^ℚ 3 *ℚ inverse d.root_of_psi)}
+      (none (mul_inverse d.psi (not_zero psi_positive)) (part_of_radius ^ℚ 4 *ℚ d.xi ^ℚ 4 *ℚ inverse d.psi ^ℚ 3 *ℚ inverse d.root_of_psi))
       (search reads depth 90) tt
       ∙ ap (λ t. t *ℚ (inverse d.psi ^ℚ 3 *ℚ inverse d.root_of_psi)) coef_is
       ∙ ap (λ t. d.coef *ℚ t) (sym divisor_inverse)
       ∙ sym terms.coef1_is
 
   -- ---- where they lie
-  eta_least : ratio (pos 0) 10000 ≤ℚ d.eta
+  pub eta_least : ratio (pos 0) 10000 ≤ℚ d.eta
   eta_least = subst (λ t. ratio (pos 0) 10000 ≤ℚ t) eta_is (le_quotient above_positive (le_by (m.a ∷ m.e ∷ []) product_not_negative (search reads depth 90) tt))
 
-  eta_most : d.eta ≤ℚ ratio (pos 8827) 10000
+  pub eta_most : d.eta ≤ℚ ratio (pos 8827) 10000
   eta_most = subst (λ t. t ≤ℚ ratio (pos 8827) 10000) eta_is
       (quotient_le above_positive (le_by (m.a ∷ m.e ∷ [])
       (known 6827 8000 ⊗ same_sign low_gap (gap low_least) ⊕ known 1173 8000 ⊗ (not_negative (le_of_lt recovers.a_is.root) ⊗ gap high.most) ⊕ known 328243 17008360000)
@@ -169,7 +169,7 @@ module _ (m : MotionRecord) (d : DensityRecord) (recovers : RecoversMotion m) (h
   root_not_negative : NonNeg d.root_of_psi
   root_not_negative = not_negative terms.root_of_psi_is.root
 
-  root_positive : Positive d.root_of_psi
+  pub root_positive : Positive d.root_of_psi
   root_positive = positive_by (λ n. root_divides (le_antisym (le_by (d.root_of_psi ∷ []) n (search reads depth 90) tt) terms.root_of_psi_is.root))
 
   -- a root is at most 1.1
@@ -182,7 +182,7 @@ module _ (m : MotionRecord) (d : DensityRecord) (recovers : RecoversMotion m) (h
       (search reads depth 90) tt)
 
   -- psi is at most 1.0001 times its root
-  psi_over_root : d.psi ≤ℚ ratio (pos 10001) 10000 *ℚ d.root_of_psi
+  pub psi_over_root : d.psi ≤ℚ ratio (pos 10001) 10000 *ℚ d.root_of_psi
   psi_over_root =
       by_sign (ratio (pos 10001) 10000 *ℚ d.root_of_psi -ℚ d.psi)
       (λ n. le_by (d.root_of_psi ∷ d.psi ∷ []) n (search reads depth 90) tt)

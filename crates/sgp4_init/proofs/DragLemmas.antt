@@ -18,7 +18,7 @@ module _ (m : MotionRecord) (d : DensityRecord) (g : DragRecord) where
   eeta = m.e *ℚ d.eta
 
   -- the bracket in C2
-  abbrev of_c2 : ℚ
+  abbrev pub of_c2 : ℚ
   of_c2 =
       m.a *ℚ (ratio (pos 1) 1 +ℚ ratio (pos 3) 2 *ℚ et2 +ℚ eeta *ℚ (ratio (pos 4) 1 +ℚ et2))
       +ℚ ratio (pos 405981) 1000000000 *ℚ (d.xi /ℚ d.psi) *ℚ m.con41 *ℚ (ratio (pos 8) 1 +ℚ ratio (pos 3) 1 *ℚ et2 *ℚ (ratio (pos 8) 1 +ℚ et2))
@@ -50,7 +50,7 @@ module _ (m : MotionRecord) (d : DensityRecord) (g : DragRecord) where
   abbrev shape : ℚ → ℚ
   shape cosine = ratio (pos 3) 4 *ℚ turning cosine -ℚ ratio (pos 3) 1 *ℚ steady
 
-  abbrev of_c4 : ℚ → ℚ
+  abbrev pub of_c4 : ℚ → ℚ
   of_c4 cosine = round -ℚ ratio (pos 1082616) 1000000000 *ℚ (d.xi /ℚ d.psi) /ℚ m.a *ℚ shape cosine
 
   -- the same terms as the definition writes them

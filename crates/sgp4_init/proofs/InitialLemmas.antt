@@ -1,25 +1,45 @@
 -- Constants that are held cover their record; and an accepted set has a high perigee.
-use Rattle.std.proofs.Common.{Bool, [], ◌∷◌, pos}
-use Rattle.exact.specs.Rational.{ℚ, ratio, ◌≤ℚ◌}
+use Rattle.std.proofs.Common.{◌≡◌, Bool, [], ◌∷◌, pos}
+use Rattle.exact.specs.Rational.{ℚ, ratio, ◌*ℚ◌, ◌≤ℚ◌}
 use Rattle.exact.proofs.RationalRing.{reads}
 use Rattle.exact.proofs.Intervals.{Inside}
-use Rattle.exact.proofs.Order.{gap, le_by}
+use Rattle.exact.proofs.Order.{gap, known, le_by, ◌⊕◌, ◌⊗◌}
 use Rattle.fixed_iv.specs.Extent.{Extent}
 use Rattle.fixed_iv.specs.Place.{Place}
+use Rattle.sgp4_model.specs.Angle.{IsPi, IsSinCos}
+use Rattle.sgp4_model.specs.Degrees.{radians}
 use Rattle.sgp4_model.specs.MeanMotion.{MotionRecord, perigee_of}
 use Rattle.sgp4_model.specs.Numerals.{whole}
 use Rattle.sgp4_model.specs.OrbitRecords.{ConstRecord}
+use Rattle.sgp4_model.proofs.FarQuarters.{pi_above_3}
+use Rattle.sgp4_model.proofs.Pythagoras.{sine_pairs_are_bounded}
 use Rattle.sgp4_shape.specs.declared.consts.Consts.{Consts}
 use Rattle.sgp4_shape.specs.Covering.{CoversConsts}
 use Rattle.sgp4_shape.specs.HeldConsts.{ConstReach, IsHeldConsts}
 use Rattle.sgp4_motion.specs.HeldMotion.{reach_motion}
-use Rattle.sgp4_init.specs.HighPerigee.{HasHighPerigee}
+use Rattle.sgp4_init.specs.TakenMotion.{IsTakenMotion}
+use Rattle.sgp4_init.proofs.CosineLemmas.{cosine_above, sine_within}
 
-pub high_perigee : (m : MotionRecord) → whole 300 ≤ℚ perigee_of m → Inside reach_motion.e.range m.e → HasHighPerigee m
+-- the motion of a set of at most 175 degrees, with its ranges and its perigee
+pub taken_motion : (pi degrees : ℚ) (m : MotionRecord) → IsPi pi → m.i ≡ radians pi degrees → IsSinCos pi m.i m.si m.c → degrees ≤ℚ whole 175 → whole 300 ≤ℚ perigee_of m →
+    Inside reach_motion.i.range m.i → Inside reach_motion.e.range m.e → Inside reach_motion.a.range m.a → IsTakenMotion m
 unfolding ratio
-high_perigee m h e =
-    let low : ratio (pos 0) 10 ≤ℚ m.e = e.low in
-    record { perigee = h; least = le_by (m.e ∷ []) (gap low) (search reads depth 90) tt; most = e.high }
+taken_motion pi degrees m is_pi angle pair most perigee of_i of_e of_a =
+    let least : ratio (pos 0) 100 ≤ℚ m.i = of_i.low in
+    let low : ratio (pos 0) 10 ≤ℚ m.e = of_e.low in
+    let above = cosine_above pi m.i m.si m.c is_pi pair (le_by (m.i ∷ []) (gap least) (search reads depth 90) tt) within in
+    record {
+      perigee = perigee;
+      least = le_by (m.e ∷ []) (gap low) (search reads depth 90) tt;
+      most = of_e.high;
+      axis = of_a.high;
+      cosine = (sine_pairs_are_bounded pi m.i m.si m.c is_pi pair).1;
+      above = above;
+      bend = sine_within pi m.i m.si m.c is_pi pair above;
+    }
+  where
+    within : m.i ≤ℚ ratio (pos 175) 180 *ℚ pi
+    within = rw angle (le_by (pi ∷ degrees ∷ []) (known 1 180 ⊗ (gap most ⊗ (known 3 1 ⊕ gap (pi_above_3 is_pi)))) (search reads depth 90) tt)
 
 pub covers_of_held : {A : Type 0} {covers : A → Place → ℚ → Type 0} {extent : A → Extent} {told : Bool} {consts : Consts A} {k : ConstRecord} {r : ConstReach} →
     ((h : Place) → IsHeldConsts covers extent told consts h k r) → CoversConsts covers consts k

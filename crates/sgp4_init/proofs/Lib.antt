@@ -1,5 +1,8 @@
+mod BoundLemmas
 mod CoefficientLemmas
+mod CosineLemmas
 mod DensityLemmas
+mod DragClaimLemmas
 mod DragLemmas
 mod EquationLemmas
 mod GivenLemmas

@@ -47,6 +47,10 @@ module _ (r : MotionReach) (d : DensityReach) where
   abbrev pub reach_xmcof : Reach
   reach_xmcof = or_zero (of_ratio (negsuc 27999) (pos 6378135) /ᴿ r.a *ᴿ (reach_scaled *ᴿ reach_scaled *ᴿ reach_scaled) *ᴿ given_drag_over_eccentricity /ᴿ reach_eccentric)
 
+  -- the tangent of half of the inclination, which is at most 175 degrees
+  abbrev pub reach_tangent : Reach
+  reach_tangent = claimed (r.si /ᴿ claimed (of_ratio (pos 1) (pos 1) +ᴿ r.c) (between (pos 34) 10000 (pos 20001) 10000)) (between (negsuc 48) 2 (pos 49) 2)
+
   -- 1 + eta cos M
   abbrev pub reach_base : Reach
   reach_base = of_ratio (pos 1) (pos 1) +ᴿ d.eta *ᴿ turned given_angle
@@ -58,7 +62,7 @@ module _ (r : MotionReach) (d : DensityReach) where
     xmcof = reach_xmcof;
     nodecf = of_ratio (negsuc 6) (pos 2) *ᴿ r.bb *ᴿ (w1 *ᴿ r.c) *ᴿ c1;
     t2cof = of_ratio (pos 3) (pos 2) *ᴿ c1;
-    xlcof = of_ratio (pos 253881) (pos 433046400) *ᴿ (of_ratio (pos 3) (pos 1) +ᴿ of_ratio (pos 5) (pos 1) *ᴿ r.c) *ᴿ (r.si /ᴿ (of_ratio (pos 1) (pos 1) +ᴿ r.c));
+    xlcof = of_ratio (pos 253881) (pos 433046400) *ᴿ (of_ratio (pos 3) (pos 1) +ᴿ of_ratio (pos 5) (pos 1) *ᴿ r.c) *ᴿ reach_tangent;
     aycof = of_ratio (pos 253881) (pos 216523200) *ᴿ r.si;
     delmo = reach_base *ᴿ reach_base *ᴿ reach_base;
   }

@@ -1,9 +1,10 @@
 -- What numerals say of the enclosed drag coefficients.
-use Rattle.std.specs.Prelude.{Bool, pos}
+use Rattle.std.specs.Prelude.{Bool, pos, negsuc}
 use Rattle.exact.specs.Rational.{ℚ, ◌*ℚ◌}
+use Rattle.exact.proofs.Intervals.{between}
 use Rattle.fixed_iv.specs.Extent.{Extent}
 use Rattle.fixed_iv.specs.Place.{Place}
-use Rattle.fixed_iv.specs.Reach.{Reach, IsHeld, ◌+ᴿ◌, ◌-ᴿ◌, ◌*ᴿ◌, ◌/ᴿ◌}
+use Rattle.fixed_iv.specs.Reach.{Reach, IsHeld, claimed, ◌+ᴿ◌, ◌-ᴿ◌, ◌*ᴿ◌, ◌/ᴿ◌}
 use Rattle.sgp4_model.specs.Drag.{DragRecord}
 use Rattle.sgp4_shape.specs.Covering.{unit_minutes}
 use Rattle.sgp4_motion.specs.HeldMotion.{MotionReach}
@@ -52,10 +53,14 @@ module _ (r : MotionReach) (d : DensityReach) where
   reach_c4_bracket cosine =
       reach_round -ᴿ of_ratio (pos 1082616) (pos 1000000000) *ᴿ d.xp /ᴿ r.a *ᴿ (of_ratio (pos 3) (pos 4) *ᴿ reach_turning cosine -ᴿ of_ratio (pos 3) (pos 1) *ᴿ reach_steady)
 
-  -- the drag coefficients, from those of the drag term and the cosine of twice the argument of perigee
+  -- The drag coefficients, from those of the drag term and the cosine of twice the argument of perigee. C2 is at most 1.82 in
+  -- size per 16,384 minutes, C4 at most 1.07 and C5 at most 0.005.
   abbrev pub reach_drag : Reach → Reach → DragReach
   reach_drag bstar cosine = record {
-    c1 = bstar *ᴿ (d.coef1 *ᴿ r.n0 *ᴿ reach_c2_bracket);
-    c4 = (d.coef1 *ᴿ r.n0 +ᴿ d.coef1 *ᴿ r.n0) *ᴿ r.p *ᴿ reach_c4_bracket cosine;
-    c5 = (d.coef1 +ᴿ d.coef1) *ᴿ r.p *ᴿ (of_ratio (pos 1) (pos 1) +ᴿ of_ratio (pos 11) (pos 4) *ᴿ (reach_et2 +ᴿ reach_eeta) +ᴿ reach_eeta *ᴿ reach_et2);
+    c1 = bstar *ᴿ claimed (d.coef1 *ᴿ r.n0 *ᴿ reach_c2_bracket) (between (negsuc 181) 100 (pos 182) 100);
+    c4 = claimed ((d.coef1 *ᴿ r.n0 +ᴿ d.coef1 *ᴿ r.n0) *ᴿ r.p *ᴿ reach_c4_bracket cosine) (between (negsuc 106) 100 (pos 107) 100);
+    c5 =
+        claimed
+        ((d.coef1 +ᴿ d.coef1) *ᴿ r.p *ᴿ (of_ratio (pos 1) (pos 1) +ᴿ of_ratio (pos 11) (pos 4) *ᴿ (reach_et2 +ᴿ reach_eeta) +ᴿ reach_eeta *ᴿ reach_et2))
+        (between (negsuc 4) 1000 (pos 5) 1000);
   }

@@ -5,5 +5,5 @@ pub mod HeldEpoch
 pub mod HeldInitial
 pub mod HeldRates
 pub mod HeldSeries
-pub mod HighPerigee
 pub mod Numerals
+pub mod TakenMotion

@@ -9,7 +9,7 @@ ghost use Rattle.sgp4_model.specs.MeanMotion.{MotionRecord, RecoversMotion};
 ghost use Rattle.sgp4_model.specs.Root.{IsSqrt};
 ghost use Rattle.sgp4_motion.specs.HeldMotion.{IsHeldMotion, MotionReach};
 ghost use Rattle.sgp4_init.specs.HeldDensity.{IsHeldDensity, reach_density};
-ghost use Rattle.sgp4_init.specs.HighPerigee.{HasHighPerigee};
+ghost use Rattle.sgp4_init.specs.TakenMotion.{IsTakenMotion};
 ghost use Rattle.sgp4_init.specs.Numerals.{of_ratio};
 
 use crate::numbers::number;
@@ -35,7 +35,7 @@ pub(crate) struct Density<E> {
 /// The terms of the density. Where the perigee is high, xi over psi is (a - s) over (a - s + e a) and over the radius of the
 /// perigee less s.
 pub(crate) fn density_terms<E: Enc>(motion: &Recovered<E>) -> Density<E>
-    ensures { (h : Place) (m : MotionRecord) (d : DensityRecord) (r : MotionReach) → RecoversMotion m → HasHighPerigee m → IsDensityTerms m d → IsHeldMotion E.covers E.extent E.tells motion.now h m r → IsHeldDensity E.covers E.extent E.tells result h d (reach_density r) }
+    ensures { (h : Place) (m : MotionRecord) (d : DensityRecord) (r : MotionReach) → RecoversMotion m → IsTakenMotion m → IsDensityTerms m d → IsHeldMotion E.covers E.extent E.tells motion.now h m r → IsHeldDensity E.covers E.extent E.tells result h d (reach_density r) }
 {
     let above = above_base(motion.a);
     let ea = motion.e.times(motion.a);
@@ -43,7 +43,8 @@ pub(crate) fn density_terms<E: Enc>(motion: &Recovered<E>) -> Density<E>
     let xi = number::<E>(1, 1).divided(above);
     let share = above.divided(above.plus(ea));
     let xp = share.divided(above_base(motion.rp));
-    let psi = size(less_square(eta));
+    let rest = less_square(eta);
+    let psi = size(rest);
     Density {
         xi,
         eta,

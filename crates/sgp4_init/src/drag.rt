@@ -1,13 +1,15 @@
 //! The drag coefficients C1, C4 and C5.
-ghost use Rattle.exact.specs.Rational.{ℚ};
+ghost use Rattle.exact.specs.Rational.{ℚ, one_ℚ, zero_ℚ, ◌+ℚ◌};
 ghost use Rattle.fixed_iv.specs.Place.{Place};
 ghost use Rattle.fixed_iv.specs.Reach.{Reach, IsHeld};
+ghost use Rattle.sgp4_model.specs.Angle.{IsNear, part};
 ghost use Rattle.sgp4_model.specs.Density.{DensityRecord, IsDensityTerms};
 ghost use Rattle.sgp4_model.specs.Drag.{DragRecord, IsDragCoefficient, IsEccentricityDragCoefficient, IsPeriodicEccentricityDragCoefficient};
 ghost use Rattle.sgp4_model.specs.MeanMotion.{MotionRecord, RecoversMotion};
 ghost use Rattle.sgp4_motion.specs.HeldMotion.{IsHeldMotion, MotionReach};
 ghost use Rattle.sgp4_init.specs.HeldDensity.{DensityReach, IsHeldDensity};
 ghost use Rattle.sgp4_init.specs.HeldDrag.{IsHeldDrag, reach_drag};
+ghost use Rattle.sgp4_init.specs.TakenMotion.{IsTakenMotion};
 
 use crate::brackets::{
     along_orbit, by_eccentricity, by_oblateness, c4_bracket, c5_bracket, steady_shape,
@@ -35,7 +37,7 @@ pub(crate) fn drag_terms<E: Enc>(
     bstar: E,
     cosine: E,
 ) -> Drag<E>
-    ensures { (h : Place) (m : MotionRecord) (d : DensityRecord) (g : DragRecord) (x_bstar x_cosine : ℚ) (r : MotionReach) (s : DensityReach) (r_bstar r_cosine : Reach) → RecoversMotion m → IsDragCoefficient m d g x_bstar → IsEccentricityDragCoefficient m d g x_cosine → IsPeriodicEccentricityDragCoefficient m d g → IsHeldMotion E.covers E.extent E.tells motion.now h m r → IsHeldDensity E.covers E.extent E.tells density.now h d s → IsHeld E.covers E.extent E.tells bstar h x_bstar r_bstar → IsHeld E.covers E.extent E.tells cosine h x_cosine r_cosine → IsHeldDrag E.covers E.extent E.tells result h g (reach_drag r s r_bstar r_cosine) }
+    ensures { (h : Place) (m : MotionRecord) (d : DensityRecord) (g : DragRecord) (x_bstar x_cosine : ℚ) (r : MotionReach) (s : DensityReach) (r_bstar r_cosine : Reach) → RecoversMotion m → IsTakenMotion m → IsDensityTerms m d → IsNear (part 60 +ℚ one_ℚ) x_cosine zero_ℚ → IsDragCoefficient m d g x_bstar → IsEccentricityDragCoefficient m d g x_cosine → IsPeriodicEccentricityDragCoefficient m d g → IsHeldMotion E.covers E.extent E.tells motion.now h m r → IsHeldDensity E.covers E.extent E.tells density.now h d s → IsHeld E.covers E.extent E.tells bstar h x_bstar r_bstar → IsHeld E.covers E.extent E.tells cosine h x_cosine r_cosine → IsHeldDrag E.covers E.extent E.tells result h g (reach_drag r s r_bstar r_cosine) }
 {
     let m = motion;
     let d = density;

@@ -22,7 +22,15 @@ use sgp4_motion::Recovered;
 use sgp4_shape::Consts;
 
 /// The constants that the propagation takes, of their parts.
-pub(crate) fn gathered<E: Enc>(epoch: &Epoch<E>, motion: &Recovered<E>, density: &Density<E>, drag: &Drag<E>, rates: &Rates<E>, coefficients: &Coefficients<E>, series: &Series<E>) -> Consts<E>
+pub(crate) fn gathered<E: Enc>(
+    epoch: &Epoch<E>,
+    motion: &Recovered<E>,
+    density: &Density<E>,
+    drag: &Drag<E>,
+    rates: &Rates<E>,
+    coefficients: &Coefficients<E>,
+    series: &Series<E>,
+) -> Consts<E>
     ensures { (h : Place) (v : InitRecord) (r : MotionReach) (d : DensityReach) (g : DragReach) (f : RatesReach) (k : CoefficientReach) (s : SeriesReach) → IsHeldEpoch E.covers E.extent E.tells epoch.now h v.epoch → IsHeldMotion E.covers E.extent E.tells motion.now h v.motion r → IsHeldDensity E.covers E.extent E.tells density.now h v.density d → IsHeldDrag E.covers E.extent E.tells drag.now h v.drag g → IsHeldRates E.covers E.extent E.tells rates.now h v.rates f → IsHeldCoefficients E.covers E.extent E.tells coefficients.now h v.coefficients k → IsHeldSeries E.covers E.extent E.tells series.now h v.higher s → IsHeldConsts E.covers E.extent E.tells result h (kept_of v) (reach_gathered r d g f k s) }
 {
     Consts {

@@ -11,7 +11,7 @@ ghost use Rattle.sgp4_shape.specs.HeldConsts.{IsHeldConsts};
 ghost use Rattle.sgp4_motion.specs.Fate.{IsBetweenLimits, IsDragged, IsNearEarth, IsOrdinary, IsRefusedExactly, MayRefuseSet};
 ghost use Rattle.sgp4_motion.specs.HeldMotion.{IsHeldMotion, MotionReach, reach_motion};
 ghost use Rattle.sgp4_init.specs.HeldInitial.{reach_initial};
-ghost use Rattle.sgp4_init.specs.HighPerigee.{HasHighPerigee};
+ghost use Rattle.sgp4_init.specs.TakenMotion.{IsTakenMotion};
 
 use crate::coefficients::remaining_coefficients;
 use crate::density::density_terms;
@@ -43,7 +43,7 @@ pub fn prepare<E: Enc>(set: &Elements) -> Result<Consts<E>, SatFault>
 /// The constants of a set, of its recovered motion.
 fn initial_constants<E: Enc>(set: &Elements, motion: &Recovered<E>) -> Consts<E>
     requires { ¬ IsDragged (record_of_elements set.now) }
-    ensures { (h : Place) (pi : ℚ) (v : InitRecord) (r : MotionReach) → IsPi pi → IsInitialised v (record_of_elements set.now) pi → HasHighPerigee v.motion → IsHeldMotion E.covers E.extent E.tells motion.now h v.motion r → IsHeldConsts E.covers E.extent E.tells result h (kept_of v) (reach_initial r) }
+    ensures { (h : Place) (pi : ℚ) (v : InitRecord) (r : MotionReach) → IsPi pi → IsInitialised v (record_of_elements set.now) pi → IsTakenMotion v.motion → IsHeldMotion E.covers E.extent E.tells motion.now h v.motion r → IsHeldConsts E.covers E.extent E.tells result h (kept_of v) (reach_initial r) }
 {
     let epoch = at_epoch(set);
     let density = density_terms(motion);

@@ -43,14 +43,12 @@ pub(crate) fn longitude_square<E: Enc>(c1: E) -> E
     number::<E>(3, 2).times(c1)
 }
 
-/// The long-period term of the mean longitude.
-pub(crate) fn longitude_bend<E: Enc>(si: E, c: E) -> E
-    ensures { (h : Place) (x_si x_c : ℚ) (r_si r_c : Reach) → IsHeld E.covers E.extent E.tells si h x_si r_si → IsHeld E.covers E.extent E.tells c h x_c r_c → ¬ (ratio (pos 1) 1 +ℚ x_c ≡ zero_ℚ) → IsHeld E.covers E.extent E.tells result h (ratio (pos 253881) 433046400 *ℚ (ratio (pos 3) 1 +ℚ ratio (pos 5) 1 *ℚ x_c) *ℚ (x_si /ℚ (ratio (pos 1) 1 +ℚ x_c))) (of_ratio (pos 253881) (pos 433046400) *ᴿ (of_ratio (pos 3) (pos 1) +ᴿ of_ratio (pos 5) (pos 1) *ᴿ r_c) *ᴿ (r_si /ᴿ (of_ratio (pos 1) (pos 1) +ᴿ r_c))) }
+/// The long-period term of the mean longitude, of the cosine of the inclination and the tangent of half of it.
+pub(crate) fn longitude_bend<E: Enc>(c: E, tangent: E) -> E
+    ensures { (h : Place) (x_c x_tangent : ℚ) (r_c r_tangent : Reach) → IsHeld E.covers E.extent E.tells c h x_c r_c → IsHeld E.covers E.extent E.tells tangent h x_tangent r_tangent → IsHeld E.covers E.extent E.tells result h (ratio (pos 253881) 433046400 *ℚ (ratio (pos 3) 1 +ℚ ratio (pos 5) 1 *ℚ x_c) *ℚ x_tangent) (of_ratio (pos 253881) (pos 433046400) *ᴿ (of_ratio (pos 3) (pos 1) +ᴿ of_ratio (pos 5) (pos 1) *ᴿ r_c) *ᴿ r_tangent) }
 {
-    let tangent = si.divided(number::<E>(1, 1).plus(c));
-    number::<E>(253_881, 433_046_400)
-        .times(number::<E>(3, 1).plus(number::<E>(5, 1).times(c)))
-        .times(tangent)
+    let sum = number::<E>(3, 1).plus(number::<E>(5, 1).times(c));
+    number::<E>(253_881, 433_046_400).times(sum).times(tangent)
 }
 
 /// The long-period term of the eccentricity vector.

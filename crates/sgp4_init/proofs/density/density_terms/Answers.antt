@@ -17,7 +17,7 @@ returns g c h m d r recovers high terms held =
     let share = claim_held (between (pos 1) 2 (pos 2) 2) (divided_held law c.divided-share.ensures.covers c.divided-share.ensures.narrow (sum_divides m d recovers high terms) above sum) (share_inside m d recovers high terms) in
     let low = c.above_base.ensures h _ _ held.rp in
     let xp = held_at (xp_is m d recovers high terms) (divided_held law c.divided-xp.ensures.covers c.divided-xp.ensures.narrow (low_divides m d recovers high terms) share low) in
-    let psi = held_at (psi_is m d recovers high terms) (c.size-psi.ensures h _ _ (c.less_square.ensures h _ _ eta)) in
+    let psi = held_at (psi_is m d recovers high terms) (c.size-psi.ensures h _ _ (c.less_square-rest.ensures h _ _ eta)) in
     let root = claim_held (between (pos 2000) 10000 (pos 10001) 10000) (c.over_root.ensures h _ _ _ psi terms.root_of_psi_is (root_divides m d recovers high terms)) (root_inside m d recovers high terms) in
     let power = c.fourth_power-2.ensures h _ _ xp in
     record {

@@ -1,3 +1,4 @@
+use Rattle.sgp4_model.proofs.Pythagoras.{sine_pairs_are_bounded}
 use Rattle.sgp4_init.proofs.initial.initial_constants.Goals as goal
 
 pub returns : goal.returns
@@ -5,7 +6,8 @@ returns g c h pi v r is_pi i high motion =
     let recovers = i.recovered.recovers in
     let epoch = c.at_epoch-epoch.ensures h pi v.epoch is_pi i.at_epoch in
     let density = c.density_terms-density.ensures h v.motion v.density r recovers high i.density_terms motion in
-    let drag = c.drag_terms-drag.ensures h v.motion v.density v.drag v.epoch.bstar v.epoch.of_twice_w0.cosine r _ _ _ recovers i.drag_coefficient i.eccentricity_drag i.periodic_eccentricity_drag motion density epoch.bstar epoch.cos_twice_w0 in
+    let near = (sine_pairs_are_bounded pi _ _ _ is_pi i.at_epoch.twice_w0_pair).1 in
+    let drag = c.drag_terms-drag.ensures h v.motion v.density v.drag v.epoch.bstar v.epoch.of_twice_w0.cosine r _ _ _ recovers high i.density_terms near i.drag_coefficient i.eccentricity_drag i.periodic_eccentricity_drag motion density epoch.bstar epoch.cos_twice_w0 in
     let rates = c.secular_rates-rates.ensures h v.motion v.rates r i.oblateness_factors i.mean_anomaly_rate i.perigee_rate i.node_rate motion in
     let rest = c.remaining_coefficients-rest.ensures h v.epoch v.motion v.density v.drag v.rates v.coefficients r _ _ _ i.at_epoch.bstar_is i.recovered.e_is high recovers i.density_terms i.perigee_drag i.remaining epoch motion density rates.w1 drag.c1 in
     let series = c.series_terms-series.ensures h v.motion v.density v.drag v.higher _ _ _ i.density_terms i.higher_drag motion.a density.xi drag.c1 in
