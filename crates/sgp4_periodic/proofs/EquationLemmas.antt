@@ -1,5 +1,5 @@
 -- The equations in the order of the code.
-use Rattle.std.proofs.Common.{◌≡◌, ◌∙◌, ap, sym, pos, negsuc, [], ◌∷◌, ◌^◌}
+use Rattle.std.proofs.Common.{◌≡◌, ◌∙◌, ap, sym, pos, negsuc, [], ◌∷◌}
 use Rattle.exact.specs.Rational.{ℚ, ◌+ℚ◌, ◌-ℚ◌, ◌*ℚ◌, ◌/ℚ◌, ◌^ℚ◌, inverse, neg_ℚ, one_ℚ, ratio, zero_ℚ}
 use Rattle.exact.proofs.RationalRing.{ring, reads}
 use Rattle.exact.proofs.Strict.{mul_inverse}
