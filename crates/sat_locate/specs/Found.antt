@@ -1,7 +1,7 @@
 -- What is found of a satellite of a catalogue at an instant, and what that says of its position.
-use Rattle.std.specs.Prelude.{◌≡◌, ℕ, ℤ, false, List, Some}
+use Rattle.std.specs.Prelude.{◌≡◌, ℕ, ℤ, Bool, true, false, List, Some, ⊤}
 use Rattle.exact.specs.Rational.{ℚ}
-use Rattle.catalogue.specs.Entries.{entry_with, has_number}
+use Rattle.catalogue.specs.Entries.{IsName, entry_with, has_number}
 use Rattle.catalogue.specs.declared.entry.Entry.{Entry}
 use Rattle.elements.specs.Elements.{ElementsRecord, record_of_elements}
 use Rattle.orbit_sight.specs.Craft.{IsUnknownAt}
@@ -29,6 +29,20 @@ found_record (Unplaced name) = unplaced name
 
 abbrev pub locate_record : LocAnswer → LocateRecord
 locate_record answer = record { at = answer.at; number = answer.number; found = found_record answer.found }
+
+-- whether bounds of a position were found
+abbrev pub is_placed : FoundRecord → Bool
+is_placed missing = false
+is_placed (refused fault name) = false
+is_placed (inside name x y z) = true
+is_placed (unplaced name) = false
+
+-- the name, where there is one, is that of a catalogue: 1 to 64 printable bytes
+abbrev pub IsWellNamed : FoundRecord → Type 0
+IsWellNamed missing = ⊤
+IsWellNamed (refused fault name) = IsName name
+IsWellNamed (inside name x y z) = IsName name
+IsWellNamed (unplaced name) = IsName name
 
 -- a coordinate lies between its bounds
 abbrev pub IsInEdge : EdgeRecord → ℚ → Type 0

@@ -1,6 +1,7 @@
 //! Where a satellite of a catalogue is.
 ghost use Rattle.std.specs.Prelude.{IfOk};
-ghost use Rattle.sat_locate.specs.Found.{IsAnswerFor, IsFoundFor, found_record, locate_record};
+ghost use Rattle.catalogue.specs.Entries.{IsName};
+ghost use Rattle.sat_locate.specs.Found.{IsAnswerFor, IsFoundFor, IsWellNamed, found_record, locate_record};
 
 use crate::edge::edge_of;
 use crate::found::{Found, LocAnswer};
@@ -17,7 +18,8 @@ pub fn locate(
     number: u32,
     at: Instant,
 ) -> Result<LocAnswer, OutOfMemory>
-    ensures { IfOk result (λ answer. IsAnswerFor satellites.now number at (locate_record answer)) }
+    ensures answer { IfOk result (λ answer. IsAnswerFor satellites.now number at (locate_record answer)) }
+    ensures name { IfOk result (λ answer. IsWellNamed (found_record answer.found)) }
 {
     let found = match satellites.find(number) {
         Some(entry) => {
@@ -31,7 +33,9 @@ pub fn locate(
 
 /// What is found of a satellite with this element set and name.
 fn found_of(set: &Elements, name: Text, at: Instant) -> Found
-    ensures { IsFoundFor set.now name at (found_record result) }
+    requires { IsName name }
+    ensures found { IsFoundFor set.now name at (found_record result) }
+    ensures name { IsWellNamed (found_record result) }
 {
     match Craft::make(set) {
         Ok(craft) => {

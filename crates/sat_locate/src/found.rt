@@ -1,4 +1,6 @@
 //! What is found of a satellite.
+ghost use Rattle.std.specs.Prelude.{◌≡◌};
+
 use crate::edge::Edge;
 use elements::{Instant, Text};
 use sgp4_shape::SatFault;
@@ -32,4 +34,20 @@ pub struct LocAnswer {
     pub at: Instant,
     pub number: u32,
     pub found: Found,
+}
+
+impl LocAnswer {
+    ghost use Rattle.sat_locate.specs.Found.{found_record, is_placed};
+
+    /// Whether bounds of the position were found.
+    pub fn is_placed(&self) -> bool
+        ensures { result ≡ is_placed (found_record self.now.found) }
+    {
+        match &self.found {
+            Found::Inside { .. } => true,
+            Found::Missing => false,
+            Found::Refused { .. } => false,
+            Found::Unplaced { .. } => false,
+        }
+    }
 }
