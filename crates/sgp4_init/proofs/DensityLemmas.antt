@@ -10,7 +10,8 @@ use Rattle.sgp4_model.specs.Density.{DensityRecord, IsDensityTerms}
 use Rattle.sgp4_model.specs.MeanMotion.{MotionRecord, RecoversMotion}
 use Rattle.sgp4_model.specs.Wgs72.{density_base_km, density_top_km, earth_radius_km}
 use Rattle.sgp4_init.specs.TakenMotion.{IsTakenMotion}
-use Rattle.sgp4_init.proofs.EquationLemmas.{equal_by, inverse_is, none, positive_from, radius_inverse, right_factor, ◌⊞◌}
+use Rattle.sgp4_motion.proofs.InputLemmas.{inverse_is}
+use Rattle.sgp4_init.proofs.EquationLemmas.{equal_by, none, positive_from, radius_inverse, right_factor, ◌⊞◌}
 use Rattle.sgp4_init.proofs.SizeLemmas.{abs_of_high}
 
 -- s, and q less s

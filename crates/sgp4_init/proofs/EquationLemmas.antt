@@ -5,6 +5,7 @@ use Rattle.exact.specs.Rational.{ℚ, ratio, inverse, ◌+ℚ◌, ◌-ℚ◌, �
 use Rattle.exact.proofs.RationalRing.{Sides, rational_coefs, ring, reads}
 use Rattle.exact.proofs.Order.{gap}
 use Rattle.exact.proofs.Strict.{Positive, mul_inverse, positive_sum}
+use Rattle.sgp4_motion.proofs.InputLemmas.{inverse_is}
 use Rattle.sgp4_model.specs.Wgs72.{earth_radius_km, j2}
 
 -- a multiple of the difference of two equal numbers is 0
@@ -25,11 +26,6 @@ equal_by xs {x} {y} {s} e r t =
 -- what is at least a positive number is positive
 pub positive_from : {l x : ℚ} → Positive l → l ≤ℚ x → Positive x
 positive_from {l} {x} p h = subst Positive (ring (x ∷ l ∷ []) {x = l +ℚ (x -ℚ l)} {y = x} (search reads depth 90) tt) (positive_sum p (gap h))
-
--- what gives 1 with x is 1 / x
-pub inverse_is : {x y : ℚ} → ¬ (x ≡ zero_ℚ) → x *ℚ y ≡ one_ℚ → inverse x ≡ y
-inverse_is {x} {y} h e =
-    equal_by (x ∷ y ∷ inverse x ∷ []) (none (mul_inverse x h) y ⊞ none e (zero_ℚ -ℚ inverse x)) (search reads depth 90) tt
 
 pub inverse_product : {x y : ℚ} → ¬ (x ≡ zero_ℚ) → ¬ (y ≡ zero_ℚ) → ¬ (x *ℚ y ≡ zero_ℚ) → inverse (x *ℚ y) ≡ inverse x *ℚ inverse y
 inverse_product {x} {y} h k n = inverse_is n (equal_by (x ∷ y ∷ inverse x ∷ inverse y ∷ []) (none (mul_inverse x h) (y *ℚ inverse y) ⊞ none (mul_inverse y k) one_ℚ) (search reads depth 90) tt)

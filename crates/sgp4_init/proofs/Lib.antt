@@ -11,3 +11,4 @@ mod NumberLemmas
 mod RateLemmas
 mod SeriesLemmas
 mod SizeLemmas
+mod TakenNumerals

@@ -8,7 +8,8 @@ use Rattle.sgp4_model.specs.Numerals.{decimal}
 use Rattle.sgp4_model.specs.Rates.{RatesRecord, IsMeanAnomalyRate, IsNodeRate, IsOblatenessFactors, IsPerigeeRate}
 use Rattle.sgp4_model.specs.Wgs72.{j2, j4}
 use Rattle.sgp4_shape.specs.Covering.{unit_minutes}
-use Rattle.sgp4_init.proofs.EquationLemmas.{equal_by, inverse_is, none}
+use Rattle.sgp4_motion.proofs.InputLemmas.{inverse_is}
+use Rattle.sgp4_init.proofs.EquationLemmas.{equal_by, none}
 
 module _ (m : MotionRecord) (f : RatesRecord) where
   abbrev u : ℚ

@@ -1,9 +1,10 @@
+pub mod Gathered
 pub mod HeldCoefficients
 pub mod HeldDensity
 pub mod HeldDrag
 pub mod HeldEpoch
-pub mod HeldInitial
 pub mod HeldRates
 pub mod HeldSeries
 pub mod Numerals
+pub mod ReachConsts
 pub mod TakenMotion

@@ -7,7 +7,7 @@ ghost use Rattle.sgp4_init.specs.HeldCoefficients.{CoefficientReach, IsHeldCoeff
 ghost use Rattle.sgp4_init.specs.HeldDensity.{DensityReach, IsHeldDensity};
 ghost use Rattle.sgp4_init.specs.HeldDrag.{DragReach, IsHeldDrag};
 ghost use Rattle.sgp4_init.specs.HeldEpoch.{IsHeldEpoch};
-ghost use Rattle.sgp4_init.specs.HeldInitial.{reach_gathered};
+ghost use Rattle.sgp4_init.specs.Gathered.{reach_gathered};
 ghost use Rattle.sgp4_init.specs.HeldRates.{IsHeldRates, RatesReach};
 ghost use Rattle.sgp4_init.specs.HeldSeries.{IsHeldSeries, SeriesReach};
 

@@ -9,8 +9,8 @@ ghost use Rattle.sgp4_model.specs.OrbitRecords.{ConstRecord};
 ghost use Rattle.sgp4_shape.specs.Covering.{CoversConsts};
 ghost use Rattle.sgp4_shape.specs.HeldConsts.{IsHeldConsts};
 ghost use Rattle.sgp4_motion.specs.Fate.{IsBetweenLimits, IsDragged, IsNearEarth, IsOrdinary, IsRefusedExactly, MayRefuseSet};
-ghost use Rattle.sgp4_motion.specs.HeldMotion.{IsHeldMotion, MotionReach, reach_motion};
-ghost use Rattle.sgp4_init.specs.HeldInitial.{reach_initial};
+ghost use Rattle.sgp4_motion.specs.HeldMotion.{IsHeldMotion, reach_motion};
+ghost use Rattle.sgp4_init.specs.ReachConsts.{reach_consts};
 ghost use Rattle.sgp4_init.specs.TakenMotion.{IsTakenMotion};
 
 use crate::coefficients::remaining_coefficients;
@@ -30,7 +30,7 @@ use sgp4_shape::{Consts, SatFault};
 pub fn prepare<E: Enc>(set: &Elements) -> Result<Consts<E>, SatFault>
     requires told { T E.tells }
     ensures covers { IfOk result (λ consts. (pi : ℚ) (k : ConstRecord) → IsPi pi → IsConsts (record_of_elements set.now) pi k → CoversConsts E.covers consts k) }
-    ensures held { IfOk result (λ consts. (h : Place) (pi : ℚ) (k : ConstRecord) → IsPi pi → IsConsts (record_of_elements set.now) pi k → IsHeldConsts E.covers E.extent E.tells consts h k (reach_initial reach_motion)) }
+    ensures held { IfOk result (λ consts. (h : Place) (pi : ℚ) (k : ConstRecord) → IsPi pi → IsConsts (record_of_elements set.now) pi k → IsHeldConsts E.covers E.extent E.tells consts h k reach_consts) }
     ensures ordinary { IfOk result (λ _. IsOrdinary (record_of_elements set.now) × IsBetweenLimits (record_of_elements set.now)) }
     ensures near_earth { IfOk result (λ _. IsNearEarth (record_of_elements set.now)) }
     ensures exact { IsRefusedExactly (record_of_elements set.now) (λ fault. result ≡ Err fault) }
@@ -43,7 +43,7 @@ pub fn prepare<E: Enc>(set: &Elements) -> Result<Consts<E>, SatFault>
 /// The constants of a set, of its recovered motion.
 fn initial_constants<E: Enc>(set: &Elements, motion: &Recovered<E>) -> Consts<E>
     requires { ¬ IsDragged (record_of_elements set.now) }
-    ensures { (h : Place) (pi : ℚ) (v : InitRecord) (r : MotionReach) → IsPi pi → IsInitialised v (record_of_elements set.now) pi → IsTakenMotion v.motion → IsHeldMotion E.covers E.extent E.tells motion.now h v.motion r → IsHeldConsts E.covers E.extent E.tells result h (kept_of v) (reach_initial r) }
+    ensures { (h : Place) (pi : ℚ) (v : InitRecord) → IsPi pi → IsInitialised v (record_of_elements set.now) pi → IsTakenMotion v.motion → IsHeldMotion E.covers E.extent E.tells motion.now h v.motion reach_motion → IsHeldConsts E.covers E.extent E.tells result h (kept_of v) reach_consts }
 {
     let epoch = at_epoch(set);
     let density = density_terms(motion);

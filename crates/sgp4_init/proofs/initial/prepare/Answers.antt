@@ -12,9 +12,9 @@ returns-clause-held g c h pi k is_pi consts =
     let told = c.requires.told in
     let motion = c.in_ok-motion.ensures.held h pi v.motion is_pi i.recovered in
     let taken = taken_motion pi _ v.motion is_pi i.recovered.i_is i.recovered.i_pair
-        (le_of_not_lt c.in_ok-motion.ensures.ordinary.0.not_inclined) (c.in_ok-motion.ensures.near_earth.perigee pi v.motion is_pi i.recovered)
-        (motion.i.known told tt).inside (motion.e.known told tt).inside (motion.a.known told tt).inside in
-    rw consts.kept (c.initial_constants.ensures h pi v _ is_pi i taken motion)
+    (le_of_not_lt c.in_ok-motion.ensures.ordinary.0.not_inclined) (c.in_ok-motion.ensures.near_earth.perigee pi v.motion is_pi i.recovered)
+    (motion.i.known told tt).inside (motion.e.known told tt).inside (motion.a.known told tt).inside in
+    rw consts.kept (c.initial_constants.ensures h pi v is_pi i taken motion)
 
 pub returns-clause-covers : goal.returns-clause-covers
 returns-clause-covers g c pi k is_pi consts = covers_of_held (λ h. returns-clause-held g c h pi k is_pi consts)

@@ -1,12 +1,12 @@
--- What numerals say of the enclosed constants, from those of the recovered motion.
-use Rattle.fixed_iv.specs.Reach.{turned, ◌+ᴿ◌}
+-- What numerals say of the enclosed constants, from those of their parts.
+use Rattle.fixed_iv.specs.Reach.{turned}
 use Rattle.sgp4_shape.specs.HeldConsts.{ConstReach}
 use Rattle.sgp4_motion.specs.HeldMotion.{MotionReach}
-use Rattle.sgp4_init.specs.HeldCoefficients.{CoefficientReach, reach_coefficients}
-use Rattle.sgp4_init.specs.HeldDensity.{DensityReach, reach_density}
-use Rattle.sgp4_init.specs.HeldDrag.{DragReach, reach_drag}
-use Rattle.sgp4_init.specs.HeldRates.{RatesReach, reach_rates}
-use Rattle.sgp4_init.specs.HeldSeries.{SeriesReach, reach_series}
+use Rattle.sgp4_init.specs.HeldCoefficients.{CoefficientReach}
+use Rattle.sgp4_init.specs.HeldDensity.{DensityReach}
+use Rattle.sgp4_init.specs.HeldDrag.{DragReach}
+use Rattle.sgp4_init.specs.HeldRates.{RatesReach}
+use Rattle.sgp4_init.specs.HeldSeries.{SeriesReach}
 use Rattle.sgp4_init.specs.Numerals.{given_angle, given_drag}
 
 module _ (r : MotionReach) (d : DensityReach) (g : DragReach) (f : RatesReach) (k : CoefficientReach) (s : SeriesReach) where
@@ -46,14 +46,3 @@ module _ (r : MotionReach) (d : DensityReach) (g : DragReach) (f : RatesReach) (
     d4 = s.d4;
     t5cof = s.t5cof;
   }
-
-module _ (r : MotionReach) where
-  abbrev pub reach_initial_drag : DragReach
-  reach_initial_drag = reach_drag r (reach_density r) given_drag (turned (given_angle +ᴿ given_angle))
-
-  -- the constants
-  abbrev pub reach_initial : ConstReach
-  reach_initial =
-      reach_gathered r (reach_density r) reach_initial_drag (reach_rates r)
-      (reach_coefficients r (reach_density r) (reach_rates r).w1 reach_initial_drag.c1)
-      (reach_series r.a (reach_density r).xi reach_initial_drag.c1)
