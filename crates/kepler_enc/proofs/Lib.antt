@@ -1,5 +1,10 @@
 mod BallLemmas
+mod CaseLemmas
+mod GuessLemmas
+mod PointLemmas
 mod RadiusLemmas
 mod RestLemmas
+mod RoundLemmas
 mod RootLemmas
 mod SizeLemmas
+mod SpreadLemmas
