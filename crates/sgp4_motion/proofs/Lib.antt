@@ -1,3 +1,4 @@
+pub mod FateLemmas
 pub mod FaultLemmas
 pub mod GivenLemmas
 pub mod InputLemmas

@@ -1,4 +1,5 @@
 pub mod Fate
+pub mod FateLaws
 pub mod HeldMotion
 pub mod Numerals
 pub mod Recovered

@@ -4,6 +4,7 @@
 mod faults;
 mod given;
 mod inputs;
+mod laws;
 mod limits;
 mod lines;
 mod motion;
@@ -11,5 +12,6 @@ mod recovered;
 mod recovery;
 
 pub use given::scaled;
+pub use laws::{accepted_sets_are_near_a_limit, refused_sets_may_be_refused};
 pub use motion::recover_motion;
 pub use recovered::Recovered;
