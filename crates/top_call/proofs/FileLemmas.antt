@@ -60,7 +60,10 @@ product_reads : (held : List ℕ → Option (List ℕ)) (words : List (List ℕ)
 product_reads held words (requests.Day lat lon window) product name instant reads h = absurd reads
 product_reads held words (requests.Show catalogue start) (products.Day day) name instant reads h = absurd h
 product_reads held words (requests.Show catalogue start) (products.Shown entries) name instant reads h = (entries, rw (reads.0, reads.1) h)
-product_reads held words (requests.Locate catalogue number at) product name instant reads h = absurd h
+product_reads held words (requests.Show catalogue start) (products.Located answer) name instant reads h = absurd h
+product_reads held words (requests.Locate catalogue number at) (products.Day day) name instant reads h = absurd h
+product_reads held words (requests.Locate catalogue number at) (products.Shown entries) name instant reads h = absurd h
+product_reads held words (requests.Locate catalogue number at) (products.Located answer) name instant reads h = (h.entries, rw (reads.0, reads.1) h.of_file)
 
 -- a request that the words make and that they ask a catalogue for reads it
 asked_reads : (words : List (List ℕ)) (request : Request) (name : List ℕ) (instant : ℤ) → words_value words ≡ Ok request → AsksCatalogue words name instant → ReadsCatalogue words request name instant

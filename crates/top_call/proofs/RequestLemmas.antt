@@ -30,6 +30,10 @@ product_of_words held words (requests.Day lat lon window) (products.Day day) e h
   resolved = resolved _ _ _ _ _ _ h.certified;
 }
 product_of_words held words (requests.Day lat lon window) (products.Shown entries) e h = absurd h
+product_of_words held words (requests.Day lat lon window) (products.Located answer) e h = absurd h
 product_of_words held words (requests.Show catalogue start) (products.Day day) e h = absurd h
+product_of_words held words (requests.Show catalogue start) (products.Located answer) e h = absurd h
 product_of_words held words (requests.Show catalogue start) (products.Shown entries) e h = record { catalogue = catalogue; start = start; of_words = e; answer = h }
-product_of_words held words (requests.Locate catalogue number at) product e h = absurd h
+product_of_words held words (requests.Locate catalogue number at) (products.Day day) e h = absurd h
+product_of_words held words (requests.Locate catalogue number at) (products.Shown entries) e h = absurd h
+product_of_words held words (requests.Locate catalogue number at) (products.Located answer) e h = record { catalogue = catalogue; number = number; at = at; of_words = e; located = h }

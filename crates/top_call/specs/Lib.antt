@@ -1,6 +1,7 @@
 pub mod Causes
 pub mod Day
 pub mod Files
+pub mod Located
 pub mod Outcome
 pub mod Printed
 pub mod Refused

@@ -3,8 +3,10 @@
 
 mod day;
 mod load;
+mod located;
 mod outcome;
 mod print;
+mod print_located;
 mod print_show;
 mod refuse;
 mod show;
@@ -13,4 +15,5 @@ mod track;
 
 pub use day::DayResult;
 pub use outcome::{Outcome, Product, status};
+pub use sat_locate::{Edge, Found, LocAnswer};
 pub use top::{run, run_for_nobody};

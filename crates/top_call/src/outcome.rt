@@ -5,6 +5,7 @@ ghost use Rattle.top_call.specs.Status.{is_whole, status_of};
 use crate::day::DayResult;
 use catalogue::{CatFault, Catalogue};
 use pass_words::{UsageFault, WindowFault};
+use sat_locate::LocAnswer;
 use span_bisect::TrackAnswer;
 
 /// What a command gives.
@@ -14,6 +15,8 @@ pub enum Product {
     Day(DayResult),
     /// The satellites of a file, each by its element set that is nearest to an instant.
     Shown(Catalogue),
+    /// Where a satellite of a file is at an instant.
+    Located(LocAnswer),
 }
 
 /// What a run comes to.
@@ -62,5 +65,6 @@ fn is_whole(product: &Product) -> bool
     match product {
         Product::Day(day) => day.is_whole(),
         Product::Shown(_) => true,
+        Product::Located(answer) => answer.is_placed(),
     }
 }

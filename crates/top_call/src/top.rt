@@ -17,6 +17,7 @@ ghost use Rattle.top_call.specs.Shelf.{AreCatalogues, AreRead, IsCounted, IsKept
 ghost use Rattle.top_call.specs.declared.outcome.Product.{Product};
 
 use crate::day::DayResult;
+use crate::located::run_locate;
 use crate::outcome::{Outcome, Product};
 use crate::print::print_day;
 use crate::refuse::refuse;
@@ -102,7 +103,11 @@ fn run_request<S: Shelf, K: Sink>(
         Request::Show { catalogue, start } => {
             run_show(alloc, text_at(words, catalogue), start, shelf, out)
         }
-        Request::Locate { .. } => refuse(Outcome::OutOfMemory, memory_line().bytes(), out),
+        Request::Locate {
+            catalogue,
+            number,
+            at,
+        } => run_locate(alloc, text_at(words, catalogue), number, at, shelf, out),
     }
 }
 
