@@ -15,3 +15,10 @@ pub const VANGUARD_SHOWN: &[u8] =
 
 /// The words that ask for it.
 pub const WORDS: &[u8] = b"show --catalogue=a --start=2000-06-28T00:00:00Z";
+
+/// A set of our own making, on the equator, with a check digit at each line's end.
+pub const EQUATOR1: &[u8] =
+    b"1 90001U 00001A   00179.00000000  .00000000  00000-0  00000-0 0    12";
+
+pub const EQUATOR2: &[u8] =
+    b"2 90001   0.0000   0.0000 0010000   0.0000   0.0000 15.00000000    10";

@@ -1,5 +1,5 @@
 //! The printing of where a satellite is, a line at a time. Each line is one put.
-ghost use Rattle.std.specs.Prelude.{◌++◌, ◌≤◌, codes, length, OnErr, OnOk};
+ghost use Rattle.std.specs.Prelude.{◌++◌, ◌≤◌, None, codes, length, OnErr, OnOk};
 ghost use Rattle.catalogue.specs.Entries.{IsName};
 ghost use Rattle.pass_text.specs.LocateLayout.{at_line, edge_line, found_lines, locate_layout};
 ghost use Rattle.pass_text.specs.SatLine.{sat_line};
@@ -67,14 +67,45 @@ fn print_found<K: Sink>(number: u32, found: &Found, out: &mut K) -> Result<(), F
     match found {
         Found::Missing => put_line(missing_line(number).bytes(), out),
         Found::Refused { fault, name } => print_satellite(number, Some(*fault), name, out),
-        Found::Inside { name, x, y, z } => match print_satellite(number, None, name, out) {
-            Ok(()) => print_edges(*x, *y, *z, out),
+        Found::Inside { name, x, y, z } => print_inside(number, name, *x, *y, *z, out),
+        Found::Unplaced { name } => print_unplaced(number, name, out),
+    }
+}
+
+/// Puts the line of a satellite and the bounds of its position.
+fn print_inside<K: Sink>(
+    number: u32,
+    name: &Text,
+    x: Edge,
+    y: Edge,
+    z: Edge,
+    out: &mut K,
+) -> Result<(), Failed>
+    requires { IsName name.now }
+    ensures whole { OnOk result (IsWhole (K.faults out.old) (K.faults out.new) (K.written out.old) (K.written out.new) (sat_line number None name.now ++ (edge_line (codes "X") x.low x.high ++ (edge_line (codes "Y") y.low y.high ++ edge_line (codes "Z") z.low z.high)))) }
+    ensures cut { OnErr result (IsCutOff (K.faults out.old) (K.faults out.new) (K.written out.old) (K.written out.new) (sat_line number None name.now ++ (edge_line (codes "X") x.low x.high ++ (edge_line (codes "Y") y.low y.high ++ edge_line (codes "Z") z.low z.high)))) }
+{
+    match print_satellite(number, None, name, out) {
+        Ok(()) => match print_edges(x, y, z, out) {
+            Ok(()) => Ok(()),
             Err(Failed) => Err(Failed),
         },
-        Found::Unplaced { name } => match print_satellite(number, None, name, out) {
-            Ok(()) => put_line(UNPLACED, out),
+        Err(Failed) => Err(Failed),
+    }
+}
+
+/// Puts the line of a satellite, and that no bounds are known.
+fn print_unplaced<K: Sink>(number: u32, name: &Text, out: &mut K) -> Result<(), Failed>
+    requires { IsName name.now }
+    ensures whole { OnOk result (IsWhole (K.faults out.old) (K.faults out.new) (K.written out.old) (K.written out.new) (sat_line number None name.now ++ codes "UNPLACED\n")) }
+    ensures cut { OnErr result (IsCutOff (K.faults out.old) (K.faults out.new) (K.written out.old) (K.written out.new) (sat_line number None name.now ++ codes "UNPLACED\n")) }
+{
+    match print_satellite(number, None, name, out) {
+        Ok(()) => match put_line(UNPLACED, out) {
+            Ok(()) => Ok(()),
             Err(Failed) => Err(Failed),
         },
+        Err(Failed) => Err(Failed),
     }
 }
 
