@@ -6,5 +6,6 @@ pub mod MapLemmas
 pub mod MessageLemmas
 pub mod NameLemmas
 pub mod NearestLemmas
+pub mod OnceLemmas
 pub mod ReadLemmas
 pub mod SetLemmas
