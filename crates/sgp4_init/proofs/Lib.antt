@@ -12,3 +12,4 @@ mod RateLemmas
 mod SeriesLemmas
 mod SizeLemmas
 mod TakenNumerals
+mod WeightLemmas
