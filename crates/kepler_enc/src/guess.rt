@@ -9,10 +9,8 @@ ghost use Rattle.sgp4_model.specs.Angle.{IsPi, IsSinCos};
 ghost use Rattle.kepler_enc.specs.Guess.{AreSized, IsGoodGuess, IsNarrowAbout, IsWithin, LeavesAtMost, newton_angle};
 ghost use Rattle.kepler_enc.specs.Spread.{betters, guesses, left_last, next_left, spread_of};
 
+use crate::sizes::one;
 use fixed_iv::{Enc, Iv};
-
-/// Units of 2^-48 in 1.
-const ONE: i64 = 1 << 48;
 
 /// A point near the root for the middles of these bounds. It leaves little of the equation if the sizes of `ax` and `ay`
 /// are small enough; who calls verifies it.
@@ -54,7 +52,7 @@ fn newton<E: Enc>(angle: Iv, u: Iv, ax: Iv, ay: Iv) -> Iv
     let (sine, cosine) = E::constant(angle).sincos();
     let (sine, cosine) = (sine.bounds(), cosine.bounds());
     let residual = angle + ay * cosine - ax * sine - u;
-    let rise = Iv::from_ends(ONE, ONE) - ay * sine - ax * cosine;
+    let rise = one() - ay * sine - ax * cosine;
     angle - residual / rise
 }
 

@@ -36,7 +36,7 @@ returns g c told pi s k r_u r_ax r_ay sum n is_pi in_u in_ax in_ay sized ok leav
     let ay = point_held c.args.ay _ c.requires.ay in_ay in
     let residual = iv_minus c.sub-residual.ensures (iv_minus c.sub.ensures (iv_plus c.add.ensures angle (iv_times c.mul.ensures ay cosine)) (iv_times c.mul-2.ensures ax sine)) u in
     let small = claim_held (within_units n) residual (inside_units n _ left) in
-    let unit = one_held c.from_ends.result c.from_ends.ensures.low c.from_ends.ensures.high in
+    let unit = one_held c.one.result c.one.ensures.low c.one.ensures.high in
     let rise = iv_minus c.sub-rise.ensures (iv_minus c.sub-2.ensures unit (iv_times c.mul-3.ensures ay sine)) (iv_times c.mul-4.ensures ax cosine) in
     let steep = claim_held (about_one (sum + 1)) rise (rise_inside (at c.args.ax.lo) (at c.args.ay.lo) s k _ _ sum of_ax of_ay sizes r.sizes bounds.0 bounds.1) in
     let better = iv_minus c.sub-3.ensures angle (iv_divided c.div.ensures (not_zero rises) small steep) in
