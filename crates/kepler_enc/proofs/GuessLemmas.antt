@@ -1,8 +1,8 @@
 -- A round of Newton's rule leaves little of the equation.
-use Rattle.std.proofs.Common.{◌≡◌, subst, sym, ap, ◌∙◌, [], ◌∷◌, pos, ◌^◌}
-use Rattle.exact.specs.Rational.{ℚ, ◌+ℚ◌, ◌-ℚ◌, ◌*ℚ◌, ◌/ℚ◌, neg_ℚ, ratio, zero_ℚ, one_ℚ, ◌≤ℚ◌}
+use Rattle.std.proofs.Common.{◌≡◌, subst, ◌∙◌, [], ◌∷◌, pos, ◌^◌}
+use Rattle.exact.specs.Rational.{ℚ, ◌+ℚ◌, ◌-ℚ◌, ◌*ℚ◌, ◌/ℚ◌, ratio, zero_ℚ, one_ℚ, ◌≤ℚ◌}
 use Rattle.exact.proofs.RationalRing.{ring, reads}
-use Rattle.exact.proofs.Order.{NonNeg, gap, known, le_by, le_refl, le_trans, not_negative, ◌⊕◌, ◌⊗◌}
+use Rattle.exact.proofs.Order.{NonNeg, gap, known, le_by, le_trans, not_negative, ◌⊕◌, ◌⊗◌}
 use Rattle.exact.proofs.Strict.{Positive, positive_weak}
 use Rattle.sgp4_model.specs.Angle.{IsNear, IsPi, IsSinCos, part}
 use Rattle.sgp4_model.proofs.Near.{near_positive, near_sym, near_times, near_trans, near_weaken}

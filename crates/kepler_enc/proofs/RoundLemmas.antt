@@ -1,10 +1,9 @@
 -- What the numerals of a round of the guess say as numbers.
 use Rattle.std.proofs.Common.{◌≡◌, arith, [], ◌∷◌, ◌+◌, ◌-◌, ◌*◌, ◌/◌, ◌^◌, ◌<◌, ◌≤◌, ℕ, pos}
-use Rattle.exact.specs.Rational.{ℚ, of_int, ratio, ◌+ℚ◌, ◌-ℚ◌, ◌*ℚ◌, one_ℚ, ◌≤ℚ◌}
+use Rattle.exact.specs.Rational.{ℚ, ratio, ◌+ℚ◌, ◌-ℚ◌, ◌*ℚ◌, one_ℚ, ◌≤ℚ◌}
 use Rattle.exact.proofs.RationalRing.{reads}
 use Rattle.exact.proofs.Order.{NonNeg, gap, known, le_by, le_trans, same_sign, ◌⊕◌, ◌⊗◌}
 use Rattle.exact.proofs.RationalRing.{ring}
-use Rattle.exact.proofs.Integers.{of_int_add, of_int_is, of_int_mul}
 use Rattle.sgp4_model.specs.Angle.{part}
 use Rattle.fixed_iv.proofs.EndLemmas.{at}
 use Rattle.kepler_enc.proofs.RadiusLemmas.{bend_enough, in_fractions}

@@ -1,6 +1,6 @@
 -- How good a guess is.
 use Rattle.std.specs.Prelude.{ℕ, ◌≤◌, pos}
-use Rattle.exact.specs.Rational.{ℚ, ◌-ℚ◌, ◌*ℚ◌, ◌/ℚ◌, one_ℚ, zero_ℚ}
+use Rattle.exact.specs.Rational.{ℚ, abs_ℚ, ratio, ◌+ℚ◌, ◌≤ℚ◌, ◌-ℚ◌, ◌*ℚ◌, ◌/ℚ◌, one_ℚ, zero_ℚ}
 use Rattle.sgp4_model.specs.Angle.{IsNear, IsSinCos}
 use Rattle.sgp4_model.specs.Kepler.{kepler_residual}
 use Rattle.exact.proofs.Intervals.{Inside}
@@ -25,6 +25,10 @@ pub record IsNarrowAbout (width : ℕ) (v : Iv) (x : ℚ) : Type 0 where
   pub holds : Holds v x
   pub bounded : IsBounded v
   pub narrow : width_of v ≤ width
+
+-- the sizes of two numbers add up to at most so many units
+abbrev pub AreSized : ℕ → ℚ → ℚ → Type 0
+AreSized sum ax ay = abs_ℚ ax +ℚ abs_ℚ ay ≤ℚ ratio (pos sum) 281474976710656
 
 -- the point is a number within the bounds that numerals give
 abbrev pub IsWithin : Reach → Iv → Type 0

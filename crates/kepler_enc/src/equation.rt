@@ -5,7 +5,8 @@ ghost use Rattle.fixed_iv.specs.Place.{Place};
 ghost use Rattle.fixed_iv.specs.Reach.{Reach, IsHeld, ◌+ᴿ◌, ◌-ᴿ◌, ◌*ᴿ◌, ◌/ᴿ◌};
 ghost use Rattle.kepler_enc.specs.Numerals.{exactly_one};
 
-use fixed_iv::{Enc, Iv};
+use crate::sizes::one;
+use fixed_iv::Enc;
 
 /// What is left of the equation at an angle with this sine and cosine.
 pub(crate) fn residual<E: Enc>(u: E, ax: E, ay: E, angle: E, sine: E, cosine: E) -> E
@@ -18,8 +19,8 @@ pub(crate) fn residual<E: Enc>(u: E, ax: E, ay: E, angle: E, sine: E, cosine: E)
 pub(crate) fn rise<E: Enc>(ax: E, ay: E, sine: E, cosine: E) -> E
     ensures { (h : Place) (x_ax x_ay x_sine x_cosine : ℚ) (r_ax r_ay r_sine r_cosine : Reach) → IsHeld E.covers E.extent E.tells ax h x_ax r_ax → IsHeld E.covers E.extent E.tells ay h x_ay r_ay → IsHeld E.covers E.extent E.tells sine h x_sine r_sine → IsHeld E.covers E.extent E.tells cosine h x_cosine r_cosine → IsHeld E.covers E.extent E.tells result h (one_ℚ -ℚ x_ay *ℚ x_sine -ℚ x_ax *ℚ x_cosine) (exactly_one -ᴿ r_ay *ᴿ r_sine -ᴿ r_ax *ᴿ r_cosine) }
 {
-    let one = E::constant(Iv::from_ratio(1, 1));
-    one.minus(ay.times(sine)).minus(ax.times(cosine))
+    let unit = E::constant(one());
+    unit.minus(ay.times(sine)).minus(ax.times(cosine))
 }
 
 /// Where a step of Newton's rule leads from an angle, and the rest of the way to the root.

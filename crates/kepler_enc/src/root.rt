@@ -1,5 +1,5 @@
 //! The roots of Kepler's equation.
-ghost use Rattle.std.specs.Prelude.{◌≡◌, ◌↔◌, ℕ, T, IfSome, IsNone};
+ghost use Rattle.std.specs.Prelude.{◌≡◌, ◌≤◌, ◌↔◌, ℕ, T, IfSome, IsNone};
 ghost use Rattle.exact.specs.Rational.{ℚ, ◌+ℚ◌, ◌-ℚ◌, ◌*ℚ◌};
 ghost use Rattle.exact.proofs.Intervals.{Inside, Interval};
 ghost use Rattle.fixed_iv.specs.Place.{Place};
@@ -8,7 +8,7 @@ ghost use Rattle.fixed_iv.proofs.EndLemmas.{at};
 ghost use Rattle.sgp4_model.specs.Angle.{IsPi, IsSinCos};
 ghost use Rattle.sgp4_model.specs.Kepler.{IsKepler};
 ghost use Rattle.kepler_enc.specs.Guard.{IsGuardedSum, IsUnguarded};
-ghost use Rattle.kepler_enc.specs.Guess.{LeavesAtMost};
+ghost use Rattle.kepler_enc.specs.Guess.{AreSized, LeavesAtMost};
 ghost use Rattle.kepler_enc.specs.Spread.{reach_root, root_from};
 
 use crate::equation::{residual, rise, stepped};
@@ -21,7 +21,7 @@ use fixed_iv::{Enc, Iv};
 /// the bounds of `ax` and `ay` do not show that their sizes add up to less than 1.
 pub fn kepler<E: Enc>(u: E, ax: E, ay: E) -> Option<E>
     ensures covers { IfSome result (λ root. (h : Place) (pi x_u x_ax x_ay angle : ℚ) → IsPi pi → E.covers u h x_u → E.covers ax h x_ax → E.covers ay h x_ay → IsKepler pi x_u x_ax x_ay angle → E.covers root h angle) }
-    ensures held { IfSome result (λ root. (h : Place) (pi x_u x_ax x_ay angle : ℚ) (r_u r_ax r_ay : Reach) → IsPi pi → IsHeld E.covers E.extent E.tells u h x_u r_u → IsHeld E.covers E.extent E.tells ax h x_ax r_ax → IsHeld E.covers E.extent E.tells ay h x_ay r_ay → IsKepler pi x_u x_ax x_ay angle → IsHeld E.covers E.extent E.tells root h angle (reach_root r_u r_ax r_ay)) }
+    ensures held { IfSome result (λ root. (h : Place) (pi x_u x_ax x_ay angle : ℚ) (r_u r_ax r_ay : Reach) (sum : ℕ) → IsPi pi → IsHeld E.covers E.extent E.tells u h x_u r_u → IsHeld E.covers E.extent E.tells ax h x_ax r_ax → IsHeld E.covers E.extent E.tells ay h x_ay r_ay → AreSized sum x_ax x_ay → IsKepler pi x_u x_ax x_ay angle → IsHeld E.covers E.extent E.tells root h angle (reach_root r_u r_ax r_ay sum)) }
     ensures none { IsNone result ↔ IsUnguarded (E.extent ax).ends (E.extent ay).ends }
 {
     let (of_u, of_ax, of_ay) = (u.bounds(), ax.bounds(), ay.bounds());
@@ -38,7 +38,7 @@ pub fn kepler<E: Enc>(u: E, ax: E, ay: E) -> Option<E>
 fn root_near<E: Enc>(point: Iv, u: E, ax: E, ay: E, sum: u64) -> E
     requires point { point.lo ≡ point.hi }
     requires guarded { IsGuardedSum (E.extent ax).ends (E.extent ay).ends sum }
-    ensures { (h : Place) (pi x_u x_ax x_ay angle : ℚ) (r_u r_ax r_ay : Reach) (n : ℕ) → IsPi pi → IsHeld E.covers E.extent E.tells u h x_u r_u → IsHeld E.covers E.extent E.tells ax h x_ax r_ax → IsHeld E.covers E.extent E.tells ay h x_ay r_ay → IsKepler pi x_u x_ax x_ay angle → (T E.tells → T (root_from r_u r_ax r_ay n).ok → LeavesAtMost n pi x_u x_ax x_ay (at point.lo)) → IsHeld E.covers E.extent E.tells result h angle (root_from r_u r_ax r_ay n) }
+    ensures { (h : Place) (pi x_u x_ax x_ay angle : ℚ) (r_u r_ax r_ay : Reach) (most n : ℕ) → IsPi pi → IsHeld E.covers E.extent E.tells u h x_u r_u → IsHeld E.covers E.extent E.tells ax h x_ax r_ax → IsHeld E.covers E.extent E.tells ay h x_ay r_ay → IsKepler pi x_u x_ax x_ay angle → (T E.tells → T (root_from r_u r_ax r_ay most n).ok → LeavesAtMost n pi x_u x_ax x_ay (at point.lo) × (sum ≤ most)) → IsHeld E.covers E.extent E.tells result h angle (root_from r_u r_ax r_ay most n) }
 {
     let (angle, sine, cosine, left) = tried(point, u, ax, ay);
     let bounds = left.bounds();

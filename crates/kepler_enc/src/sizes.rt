@@ -1,5 +1,5 @@
 //! Sizes of bounds, and the guard on them.
-ghost use Rattle.std.specs.Prelude.{◌≡◌, MatchOption};
+ghost use Rattle.std.specs.Prelude.{◌≡◌, MatchOption, pos};
 ghost use Rattle.fixed_iv.specs.Extent.{size};
 ghost use Rattle.kepler_enc.specs.Guard.{IsGuardedSum, IsUnguarded};
 
@@ -7,6 +7,15 @@ use fixed_iv::Iv;
 
 /// Units of 2^-48 in 1.
 pub(crate) const ONE: u64 = 1 << 48;
+
+/// The number 1.
+pub(crate) fn one() -> Iv
+    ensures low { result.lo ≡ pos 281474976710656 }
+    ensures high { result.hi ≡ pos 281474976710656 }
+{
+    let units = ONE as i64;
+    Iv::from_ends(units, units)
+}
 
 /// The largest size of an end, in units of 2^-48.
 pub(crate) fn largest(bounds: Iv) -> u64

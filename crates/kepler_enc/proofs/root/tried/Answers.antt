@@ -1,5 +1,5 @@
 use Rattle.fixed_iv.proofs.Held.{constant_held, turn_held}
-use Rattle.kepler_enc.proofs.PointLemmas.{point_given}
+use Rattle.kepler_enc.proofs.IvLemmas.{point_given}
 use Rattle.kepler_enc.proofs.root.tried.Goals as goal
 
 pub returns : goal.returns
