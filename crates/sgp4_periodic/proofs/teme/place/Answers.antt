@@ -1,4 +1,5 @@
 use Rattle.std.proofs.Common.{inl, inr, refl}
+use Rattle.fixed_iv.proofs.Held.{covered}
 use Rattle.sgp4_shape.proofs.CoveredConsts.{covered_consts}
 use Rattle.sgp4_periodic.proofs.PlaceLemmas.{covered_mean, ellipse_of_position, untrue}
 use Rattle.sgp4_periodic.proofs.teme.place.Goals as goal
@@ -21,23 +22,27 @@ returns-then-not-lie_above_0-clause-none g c = inl (record {
 pub returns-then-not-are_at_least_1-clause-none : goal.returns-then-not-are_at_least_1-clause-none
 returns-then-not-are_at_least_1-clause-none g c = inr (record {
   mrt = c.corrected_at-at.result.mrt;
-  held = λ h pi angle k m q v r n is_pi consts mean p.
+  held = λ h pi angle k m q v r n sum is_pi consts mean p sized.
       let ellipse = c.ellipse_of-ellipse.ensures h pi k m q r n is_pi consts mean (ellipse_of_position p) in
-      let root = c.in_ok-root.ensures.held h pi _ _ _ angle _ _ _ is_pi ellipse.u ellipse.ax ellipse.ay (record { turn = _; solves = p.kepler }) in
+      let root = c.in_ok-root.ensures.held h pi _ _ _ angle _ _ _ sum is_pi ellipse.u ellipse.ax ellipse.ay sized (record { turn = _; solves = p.kepler }) in
       let at = c.corrected_at-at.ensures h pi angle k m q v _ _ _ _ is_pi consts mean ellipse root p in
       at.mrt;
   low = λ above. untrue c.if-not-are_at_least_1.true (c.are_at_least_1.ensures.1 (rw c.bounds-2.ensures above));
 })
 
 pub returns-clause-held : goal.returns-clause-held
-returns-clause-held g c h pi angle k m v r n is_pi consts mean guarded =
+returns-clause-held g c h pi angle k m v r n sum is_pi consts mean guarded sized =
     let p = guarded.unguarded in
     let ellipse = c.ellipse_of-ellipse.ensures h pi k m _ r n is_pi consts mean (ellipse_of_position p) in
-    let root = c.in_ok-root.ensures.held h pi _ _ _ angle _ _ _ is_pi ellipse.u ellipse.ax ellipse.ay (record { turn = _; solves = p.kepler }) in
+    let root = c.in_ok-root.ensures.held h pi _ _ _ angle _ _ _ sum is_pi ellipse.u ellipse.ax ellipse.ay sized (record { turn = _; solves = p.kepler }) in
     let at = c.corrected_at-at.ensures h pi angle k m _ v _ _ _ _ is_pi consts mean ellipse root p in
     c.position.ensures h pi k m _ v _ is_pi at p.corrected_latitude p.vector
 
 pub returns-clause-covers : goal.returns-clause-covers
 returns-clause-covers g c h pi angle k m v is_pi consts mean guarded =
-    let held = returns-clause-held g c h pi angle k m v _ _ is_pi (covered_consts _ _ g.E.Enc.tells _ k consts h) (covered_mean _ _ g.E.Enc.tells _ h m mean) guarded in
-    record { x = held.x.covers; y = held.y.covers; z = held.z.covers }
+    let p = guarded.unguarded in
+    let ellipse = c.ellipse_of-ellipse.ensures h pi k m _ _ _ is_pi (covered_consts _ _ g.E.Enc.tells _ k consts h) (covered_mean _ _ g.E.Enc.tells _ h m mean) (ellipse_of_position p) in
+    let root = c.in_ok-root.ensures.covers h pi _ _ _ angle is_pi ellipse.u.covers ellipse.ax.covers ellipse.ay.covers (record { turn = _; solves = p.kepler }) in
+    let at = c.corrected_at-at.ensures h pi angle k m _ v _ _ _ _ is_pi (covered_consts _ _ g.E.Enc.tells _ k consts h) (covered_mean _ _ g.E.Enc.tells _ h m mean) ellipse (covered root) p in
+    let position = c.position.ensures h pi k m _ v _ is_pi at p.corrected_latitude p.vector in
+    record { x = position.x.covers; y = position.y.covers; z = position.z.covers }
