@@ -1,5 +1,13 @@
 mod BallLemmas
+mod CaseLemmas
+mod DistanceLemmas
+mod GuessLemmas
+mod IvLemmas
+mod KnownSpreads
 mod RadiusLemmas
 mod RestLemmas
+mod RoundLemmas
 mod RootLemmas
 mod SizeLemmas
+mod SizedLemmas
+mod SpreadLemmas

@@ -13,7 +13,7 @@ natural : (n : ℕ) → NonNeg (of_int (pos n))
 natural n = not_negative (rw (← of_int_is (pos 0)) (of_int_le (omega (arith, ints))))
 
 -- m * 2^48 ≤ radius * (2^48 - sum), in units
-in_fractions : (m sum radius g : ℕ) → g + sum ≡ 281474976710656 → m * 281474976710656 ≤ radius * g →
+pub in_fractions : (m sum radius g : ℕ) → g + sum ≡ 281474976710656 → m * 281474976710656 ≤ radius * g →
     at (pos m) ≤ℚ at (pos radius) *ℚ (one_ℚ -ℚ at (pos sum))
 unfolding at
 in_fractions m sum radius g e h =
@@ -30,13 +30,11 @@ ball_enough left sum radius below h =
     let k = in_fractions (left + 1) sum radius (2 ^ 48 - sum) (omega arith) (omega (arith, h.over)) in
     le_trans (rw (of_int_add (pos left) (pos 1), of_int_is (pos 1)) (le_by (of_int (pos left) ∷ []) (known 0 1) (search reads depth 90) tt)) k
 
--- that of the rest times 1 - l is at least l * n^2 / 2 and a unit
-pub rest_enough : (sum n radius : ℕ) → sum < 2 ^ 48 → IsNextAbove ((sum * (n * n / 2 ^ 49 + 1) / 2 ^ 48 + 2) * 2 ^ 48) (2 ^ 48 - sum) radius →
-    ratio (pos 1) 2 *ℚ at (pos sum) *ℚ (at (pos n) *ℚ at (pos n)) +ℚ part 48 ≤ℚ at (pos radius) *ℚ (one_ℚ -ℚ at (pos sum))
+-- l * n^2 / 2 and a unit, rounded up
+pub bend_enough : (sum n : ℕ) →
+    ratio (pos 1) 2 *ℚ at (pos sum) *ℚ (at (pos n) *ℚ at (pos n)) +ℚ part 48 ≤ℚ at (pos (sum * (n * n / 2 ^ 49 + 1) / 2 ^ 48 + 2))
 unfolding at
-rest_enough sum n radius below h =
-    let k = in_fractions (sum * (n * n / 2 ^ 49 + 1) / 2 ^ 48 + 2) sum radius (2 ^ 48 - sum) (omega arith) (omega (arith, h.over)) in
-    le_trans (whole (n * n / 2 ^ 49 + 1) (sum * (n * n / 2 ^ 49 + 1) / 2 ^ 48 + 2) (omega arith) (above (sum * (n * n / 2 ^ 49 + 1)))) k
+bend_enough sum n = whole (n * n / 2 ^ 49 + 1) (sum * (n * n / 2 ^ 49 + 1) / 2 ^ 48 + 2) (omega arith) (above (sum * (n * n / 2 ^ 49 + 1)))
   where
     above : (m : ℕ) → m + 2 ^ 48 ≤ (m / 2 ^ 48 + 2) * 2 ^ 48
     above m = omega arith
@@ -50,3 +48,9 @@ rest_enough sum n radius below h =
         rw (← of_int_is (pos 281474976710656), ← of_int_mul, ← of_int_mul, ← of_int_add) (of_int_le (omega (arith, ints, f))) in
         le_by (of_int (pos sum) ∷ of_int (pos n) ∷ of_int (pos half) ∷ of_int (pos bend) ∷ [])
         (known 1 (2 ^ 145) ⊗ natural sum ⊗ gap a ⊕ known 1 (2 ^ 96) ⊗ gap b) (search reads depth 90) tt
+
+-- the radius of the rest times 1 - l is at least that
+pub rest_enough : (sum n radius : ℕ) → sum < 2 ^ 48 → IsNextAbove ((sum * (n * n / 2 ^ 49 + 1) / 2 ^ 48 + 2) * 2 ^ 48) (2 ^ 48 - sum) radius →
+    ratio (pos 1) 2 *ℚ at (pos sum) *ℚ (at (pos n) *ℚ at (pos n)) +ℚ part 48 ≤ℚ at (pos radius) *ℚ (one_ℚ -ℚ at (pos sum))
+rest_enough sum n radius below h =
+    le_trans (bend_enough sum n) (in_fractions (sum * (n * n / 2 ^ 49 + 1) / 2 ^ 48 + 2) sum radius (2 ^ 48 - sum) (omega arith) (omega (arith, h.over)))

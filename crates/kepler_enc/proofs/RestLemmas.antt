@@ -5,7 +5,7 @@ use Rattle.exact.proofs.RationalRing.{ring, reads}
 use Rattle.exact.proofs.Order.{NonNeg, gap, known, le_by, le_trans, not_negative, ◌⊕◌, ◌⊗◌}
 use Rattle.exact.proofs.Strict.{Positive, mul_inverse, not_zero, positive_known, positive_product, positive_sum}
 use Rattle.sgp4_model.specs.Angle.{IsNear, IsSinCos, part}
-use Rattle.sgp4_model.proofs.Near.{near_positive}
+use Rattle.sgp4_model.proofs.Near.{near_positive, near_trans}
 use Rattle.sgp4_model.proofs.PairSlopes.{sine_pairs_follow_their_slope}
 use Rattle.sgp4_model.proofs.Pythagoras.{sine_pairs_are_bounded}
 use Rattle.kepler_enc.proofs.BallLemmas.{AreAngles, le_cancel, scaled}
@@ -14,8 +14,8 @@ use Rattle.kepler_enc.proofs.BallLemmas.{AreAngles, le_cancel, scaled}
 abbrev pub rise_at : ℚ → ℚ → ℚ → ℚ → ℚ
 rise_at ax ay s c = one_ℚ -ℚ ay *ℚ s -ℚ ax *ℚ c
 
--- at least 1 - l, less a 2^-60th of it
-steep : (ax ay s c a b l : ℚ) → IsNear a ax zero_ℚ → IsNear b ay zero_ℚ → a +ℚ b ≤ℚ l → l ≤ℚ ratio (pos 1) 2 → IsNear (part 60 +ℚ one_ℚ) s zero_ℚ → IsNear (part 60 +ℚ one_ℚ) c zero_ℚ →
+-- it is at least 1 - l, less a 2^-60th of it
+pub steep : (ax ay s c a b l : ℚ) → IsNear a ax zero_ℚ → IsNear b ay zero_ℚ → a +ℚ b ≤ℚ l → l ≤ℚ ratio (pos 1) 2 → IsNear (part 60 +ℚ one_ℚ) s zero_ℚ → IsNear (part 60 +ℚ one_ℚ) c zero_ℚ →
     (one_ℚ -ℚ l) *ℚ (one_ℚ -ℚ part 60) ≤ℚ rise_at ax ay s c
 steep ax ay s c a b l of_ax of_ay sizes half sine cosine =
     let x = scaled ax of_ax cosine in
@@ -24,34 +24,35 @@ steep ax ay s c a b l of_ax of_ay sizes half sine cosine =
     (gap x.above ⊕ gap y.above ⊕ (known 1 1 ⊕ known 1 (2 ^ 60)) ⊗ gap sizes ⊕ known 2 (2 ^ 60) ⊗ gap half)
     (search reads depth 90) tt
 
--- what is left of the equation falls short of the slope by this at most
-pub bent : (u ax ay root t d angle s c a b l r w : ℚ) → IsNear a ax zero_ℚ → IsNear b ay zero_ℚ → a +ℚ b ≤ℚ l →
-    IsNear (part 60) (root +ℚ ay *ℚ d -ℚ ax *ℚ t -ℚ u) zero_ℚ →
-    IsNear w t (s +ℚ (root -ℚ angle) *ℚ c) → IsNear w d (c -ℚ (root -ℚ angle) *ℚ s) →
-    IsNear (part 60 +ℚ l *ℚ w) ((root -ℚ angle) *ℚ rise_at ax ay s c +ℚ (angle +ℚ ay *ℚ c -ℚ ax *ℚ s -ℚ u)) zero_ℚ
-bent u ax ay root t d angle s c a b l r w of_ax of_ay sizes solved sines cosines =
+-- what is left at two angles differs by the slope, up to this
+pub along_slope : (u ax ay other t d angle s c a b l w : ℚ) → IsNear a ax zero_ℚ → IsNear b ay zero_ℚ → a +ℚ b ≤ℚ l →
+    IsNear w t (s +ℚ (other -ℚ angle) *ℚ c) → IsNear w d (c -ℚ (other -ℚ angle) *ℚ s) →
+    IsNear (l *ℚ w) ((other -ℚ angle) *ℚ rise_at ax ay s c +ℚ (angle +ℚ ay *ℚ c -ℚ ax *ℚ s -ℚ u)) (other +ℚ ay *ℚ d -ℚ ax *ℚ t -ℚ u)
+along_slope u ax ay other t d angle s c a b l w of_ax of_ay sizes sines cosines =
     let x = scaled ax of_ax sines in
     let y = scaled ay of_ay cosines in
     let more : NonNeg ((l -ℚ (a +ℚ b)) *ℚ w) = gap sizes ⊗ not_negative (near_positive sines) in
     record {
-      above = le_by (u ∷ ax ∷ ay ∷ root ∷ t ∷ d ∷ angle ∷ s ∷ c ∷ a ∷ b ∷ l ∷ w ∷ []) (gap solved.above ⊕ gap x.above ⊕ gap y.below ⊕ more) (search reads depth 90) tt;
-      below = le_by (u ∷ ax ∷ ay ∷ root ∷ t ∷ d ∷ angle ∷ s ∷ c ∷ a ∷ b ∷ l ∷ w ∷ []) (gap solved.below ⊕ gap x.below ⊕ gap y.above ⊕ more) (search reads depth 90) tt;
+      above = le_by (u ∷ ax ∷ ay ∷ other ∷ t ∷ d ∷ angle ∷ s ∷ c ∷ a ∷ b ∷ l ∷ w ∷ []) (gap x.above ⊕ gap y.below ⊕ more) (search reads depth 90) tt;
+      below = le_by (u ∷ ax ∷ ay ∷ other ∷ t ∷ d ∷ angle ∷ s ∷ c ∷ a ∷ b ∷ l ∷ w ∷ []) (gap x.below ⊕ gap y.above ⊕ more) (search reads depth 90) tt;
     }
 
--- where q D + f is at most w in size, and w at most n D, the rest q + f / D is at most n in size
-quotient_near : (q f divisor n w : ℚ) → Positive divisor → IsNear w (q *ℚ divisor +ℚ f) zero_ℚ → w ≤ℚ n *ℚ divisor → IsNear n (q +ℚ f /ℚ divisor) zero_ℚ
+pub quotient_times : (q f divisor : ℚ) → Positive divisor → (q +ℚ f /ℚ divisor) *ℚ divisor ≡ q *ℚ divisor +ℚ f
+quotient_times q f divisor p =
+    ring (q ∷ f ∷ divisor ∷ inverse divisor ∷ []) {y = q *ℚ divisor +ℚ f *ℚ (divisor *ℚ inverse divisor)} (search reads depth 90) tt
+    ∙ rw (mul_inverse divisor (not_zero p)) (ring (q ∷ f ∷ divisor ∷ []) (search reads depth 90) tt)
+
+-- where q D + f is at most w in size, and w at most n D, q + f / D is at most n in size
+pub quotient_near : (q f divisor n w : ℚ) → Positive divisor → IsNear w (q *ℚ divisor +ℚ f) zero_ℚ → w ≤ℚ n *ℚ divisor → IsNear n (q +ℚ f /ℚ divisor) zero_ℚ
 quotient_near q f divisor n w p h k = record {
-  above = le_cancel p (rw product (le_by (q ∷ f ∷ divisor ∷ n ∷ w ∷ []) (gap h.above ⊕ gap k) (search reads depth 90) tt));
-  below = le_cancel p (rw product_and_more (le_by (q ∷ f ∷ divisor ∷ n ∷ w ∷ []) (gap h.below ⊕ gap k) (search reads depth 90) tt));
+  above = le_cancel p (rw (quotient_times q f divisor p) (le_by (q ∷ f ∷ divisor ∷ n ∷ w ∷ []) (gap h.above ⊕ gap k) (search reads depth 90) tt));
+  below = le_cancel p (rw and_more (le_by (q ∷ f ∷ divisor ∷ n ∷ w ∷ []) (gap h.below ⊕ gap k) (search reads depth 90) tt));
 }
   where
-    product : (q +ℚ f /ℚ divisor) *ℚ divisor ≡ q *ℚ divisor +ℚ f
-    product =
-        ring (q ∷ f ∷ divisor ∷ inverse divisor ∷ []) {y = q *ℚ divisor +ℚ f *ℚ (divisor *ℚ inverse divisor)} (search reads depth 90) tt
-        ∙ rw (mul_inverse divisor (not_zero p)) (ring (q ∷ f ∷ divisor ∷ []) (search reads depth 90) tt)
-
-    product_and_more : (q +ℚ f /ℚ divisor +ℚ n) *ℚ divisor ≡ q *ℚ divisor +ℚ f +ℚ n *ℚ divisor
-    product_and_more = ring ((q +ℚ f /ℚ divisor) ∷ divisor ∷ n ∷ []) {y = (q +ℚ f /ℚ divisor) *ℚ divisor +ℚ n *ℚ divisor} (search reads depth 90) tt ∙ ap (λ t. t +ℚ n *ℚ divisor) product
+    and_more : (q +ℚ f /ℚ divisor +ℚ n) *ℚ divisor ≡ q *ℚ divisor +ℚ f +ℚ n *ℚ divisor
+    and_more =
+        ring ((q +ℚ f /ℚ divisor) ∷ divisor ∷ n ∷ []) {y = (q +ℚ f /ℚ divisor) *ℚ divisor +ℚ n *ℚ divisor} (search reads depth 90) tt
+        ∙ ap (λ t. t +ℚ n *ℚ divisor) (quotient_times q f divisor p)
 
 -- the square of a distance of at most n is at most that of n
 pub bend : (root angle l n r : ℚ) → NonNeg l → l ≤ℚ ratio (pos 1) 2 → NonNeg n → n ≤ℚ one_ℚ → IsNear n root angle → ratio (pos 1) 2 *ℚ l *ℚ (n *ℚ n) +ℚ part 48 ≤ℚ r *ℚ (one_ℚ -ℚ l) →
@@ -65,13 +66,16 @@ bend root angle l n r sign half sign_n small near enough =
     l_times : {x : ℚ} → NonNeg x → NonNeg (l *ℚ x)
     l_times p = sign ⊗ p
 
+-- the steepness is not 0
+pub rise_positive : (ax ay s c a b l : ℚ) → IsNear a ax zero_ℚ → IsNear b ay zero_ℚ → a +ℚ b ≤ℚ l → l ≤ℚ ratio (pos 1) 2 → IsNear (part 60 +ℚ one_ℚ) s zero_ℚ → IsNear (part 60 +ℚ one_ℚ) c zero_ℚ →
+    Positive (one_ℚ -ℚ l) → Positive (rise_at ax ay s c)
+rise_positive ax ay s c a b l of_ax of_ay sizes half sine cosine below_one =
+    let least = positive_product below_one (positive_known 1152921504606846974 (2 ^ 60)) in
+    subst Positive (ring (rise_at ax ay s c ∷ l ∷ []) (search reads depth 90) tt) (positive_sum least (gap (steep ax ay s c a b l of_ax of_ay sizes half sine cosine)))
+
 module _ {pi u ax ay root t d angle s c a b l r : ℚ} (h : AreAngles pi u ax ay root t d angle s c a b l r) (half : l ≤ℚ ratio (pos 1) 2) where
-  -- the steepness is not 0
   pub rises : Positive (rise_at ax ay s c)
-  rises =
-      let n = sine_pairs_are_bounded pi angle s c h.is_pi h.of_angle in
-      let least = positive_product h.below_one (positive_known 1152921504606846974 (2 ^ 60)) in
-      subst Positive (ring (rise_at ax ay s c ∷ l ∷ []) (search reads depth 90) tt) (positive_sum least (gap (steep ax ay s c a b l h.of_ax h.of_ay h.sizes half n.0 n.1)))
+  rises = let n = sine_pairs_are_bounded pi angle s c h.is_pi h.of_angle in rise_positive ax ay s c a b l h.of_ax h.of_ay h.sizes half n.0 n.1 h.below_one
 
   -- what a step leaves of the way from the angle to the root
   pub rest : {n radius : ℚ} → n ≤ℚ one_ℚ → IsNear n root angle → NonNeg radius → ratio (pos 1) 2 *ℚ l *ℚ (n *ℚ n) +ℚ part 48 ≤ℚ radius *ℚ (one_ℚ -ℚ l) →
@@ -82,8 +86,8 @@ module _ {pi u ax ay root t d angle s c a b l r : ℚ} (h : AreAngles pi u ax ay
       let pairs = sine_pairs_follow_their_slope pi angle (root -ℚ angle) s c t d h.is_pi (step near small) h.of_angle (subst (λ z. IsSinCos pi z t d) (ring (root ∷ angle ∷ []) (search reads depth 90) tt) h.of_root) in
       let sign_l = not_negative (le_trans (le_by (a ∷ b ∷ []) (not_negative (near_positive h.of_ax) ⊕ not_negative (near_positive h.of_ay)) (search reads depth 90) tt) h.sizes) in
       quotient_near (root -ℚ angle) _ _ radius _ rises
-      (bent u ax ay root t d angle s c a b l r _ h.of_ax h.of_ay h.sizes h.solved pairs.0 pairs.1)
-      (le_trans (bend root angle l n radius sign_l half (not_negative (near_positive near)) small near enough)
+      (near_trans (along_slope u ax ay root t d angle s c a b l _ h.of_ax h.of_ay h.sizes pairs.0 pairs.1) h.solved)
+      (le_trans (le_trans (le_by (l ∷ root ∷ angle ∷ []) (known 0 1) (search reads depth 90) tt) (bend root angle l n radius sign_l half (not_negative (near_positive near)) small near enough))
       (le_by (radius ∷ l ∷ rise_at ax ay s c ∷ []) (sign ⊗ gap least) (search reads depth 90) tt))
     where
       step : IsNear n root angle → n ≤ℚ one_ℚ → IsNear one_ℚ (root -ℚ angle) zero_ℚ

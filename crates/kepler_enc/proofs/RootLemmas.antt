@@ -6,10 +6,12 @@ use Rattle.exact.proofs.Order.{gap, le_by}
 use Rattle.exact.proofs.Strict.{not_zero}
 use Rattle.sgp4_model.specs.Angle.{IsNear, IsPi, IsSinCos}
 use Rattle.sgp4_model.specs.Kepler.{IsKepler}
-use Rattle.fixed_iv.specs.Extent.{size}
+use Rattle.fixed_iv.specs.Extent.{Extent, size}
 use Rattle.fixed_iv.specs.Holds.{Holds, IsBounded}
 use Rattle.fixed_iv.specs.Results.{IsSum}
+use Rattle.fixed_iv.specs.Place.{Place}
 use Rattle.fixed_iv.specs.declared.iv.Iv.{Iv}
+use Rattle.fixed_iv.proofs.Held.{Contained}
 use Rattle.fixed_iv.proofs.EndLemmas.{at}
 use Rattle.fixed_iv.proofs.HoldsLemmas.{holds_low}
 use Rattle.fixed_iv.proofs.HeldLemmas.{holds_sum}
@@ -30,6 +32,20 @@ pub record IsSeen (pi u ax ay root s c : ℚ) (of_ax of_ay of_left point : Iv) (
   pub pair : IsSinCos pi (at point.lo) s c
   pub bounded : IsBounded of_left
   pub left_held : Holds of_left (at point.lo +ℚ ay *ℚ c -ℚ ax *ℚ s -ℚ u)
+
+pub seen_of : {A : Type 0} {C : A → Place → ℚ → Type 0} (E : A → Extent) → Contained C E → (e_ax e_ay left : A) (h : Place) (pi u ax ay root s c : ℚ) (point : Iv) (sum : ℕ) →
+    IsPi pi → IsGuardedSum (E e_ax).ends (E e_ay).ends sum → C e_ax h ax → C e_ay h ay → IsKepler pi u ax ay root → IsSinCos pi (at point.lo) s c → IsBounded (E left).ends →
+    C left h (at point.lo +ℚ ay *ℚ c -ℚ ax *ℚ s -ℚ u) → IsSeen pi u ax ay root s c (E e_ax).ends (E e_ay).ends (E left).ends point sum
+seen_of E law e_ax e_ay left h pi u ax ay root s c point sum is_pi guarded of_ax of_ay k pair bounded of_left = record {
+  is_pi = is_pi;
+  guarded = guarded;
+  ax_held = law e_ax h ax of_ax;
+  ay_held = law e_ay h ay of_ay;
+  root_is = k;
+  pair = pair;
+  bounded = bounded;
+  left_held = law left h _ of_left;
+}
 
 module _ {pi u ax ay root s c : ℚ} {of_ax of_ay of_left point : Iv} {sum : ℕ} (h : IsSeen pi u ax ay root s c of_ax of_ay of_left point sum) where
   angles : AreAngles pi u ax ay root h.root_is.turn.sine h.root_is.turn.cosine (at point.lo) s c (at (pos (size of_ax))) (at (pos (size of_ay))) (at (pos sum)) (at (pos (size of_left)))

@@ -1,12 +1,12 @@
 -- Bounds, their sizes, and points, as numbers.
-use Rattle.std.proofs.Common.{arith, [], ◌∷◌, ◌+◌, ◌^◌, ◌<◌, ◌≤◌, max, ℕ, ℤ, pos, negsuc, neg_ℤ, ◌≤ℤ◌, unsigned_abs}
+use Rattle.std.proofs.Common.{refl, sym, ◌≡◌, arith, [], ◌∷◌, ◌+◌, ◌^◌, ◌<◌, ◌≤◌, max, ℕ, ℤ, pos, negsuc, neg_ℤ, ◌≤ℤ◌, unsigned_abs}
 use Rattle.std.proofs.lemmas.Int.{ints, by_lt_z}
 use Rattle.exact.specs.Rational.{ℚ, of_int, ratio, ◌+ℚ◌, ◌-ℚ◌, zero_ℚ, one_ℚ, ◌≤ℚ◌}
 use Rattle.exact.proofs.RationalRing.{ring, reads}
 use Rattle.exact.proofs.Order.{NonNeg, gap, known, le_by, le_trans, not_negative, same_sign, ◌⊕◌, ◌⊗◌}
-use Rattle.exact.proofs.Integers.{of_int_add, of_int_is, of_int_le, of_int_neg}
+use Rattle.exact.proofs.Integers.{ratio_is_product, of_int_add, of_int_is, of_int_le, of_int_neg}
 use Rattle.exact.proofs.Strict.{Positive, not_both, positive_by, positive_known}
-use Rattle.sgp4_model.specs.Angle.{IsNear}
+use Rattle.sgp4_model.specs.Angle.{IsNear, part}
 use Rattle.sgp4_model.specs.PairLaws.{IsModest}
 use Rattle.fixed_iv.specs.Ends.{in_units}
 use Rattle.fixed_iv.specs.Extent.{size}
@@ -17,13 +17,13 @@ use Rattle.fixed_iv.proofs.HeldLemmas.{holds_whole}
 use Rattle.kepler_enc.specs.Radius.{IsAboutZero}
 
 -- ---- sizes
-low_in_size : (l h : ℤ) → neg_ℤ (pos (max (unsigned_abs l) (unsigned_abs h))) ≤ℤ l
+pub low_in_size : (l h : ℤ) → neg_ℤ (pos (max (unsigned_abs l) (unsigned_abs h))) ≤ℤ l
 low_in_size (pos l) (pos h) = omega (arith, ints)
 low_in_size (pos l) (negsuc h) = omega (arith, ints)
 low_in_size (negsuc l) (pos h) = omega (arith, ints)
 low_in_size (negsuc l) (negsuc h) = omega (arith, ints)
 
-high_in_size : (l h : ℤ) → h ≤ℤ pos (max (unsigned_abs l) (unsigned_abs h))
+pub high_in_size : (l h : ℤ) → h ≤ℤ pos (max (unsigned_abs l) (unsigned_abs h))
 high_in_size (pos l) (pos h) = omega (arith, ints)
 high_in_size (pos l) (negsuc h) = omega (arith, ints)
 high_in_size (negsuc l) (pos h) = omega (arith, ints)
@@ -115,3 +115,14 @@ at_most_half {n} h =
 pub not_below_zero : (n : ℕ) → NonNeg (at (pos n))
 unfolding at
 not_below_zero n = not_negative (rw (← of_int_is (pos 0)) (of_int_le {a = pos 0} {b = pos n} (omega (arith, ints)))) ⊗ known 1 281474976710656
+
+pub at_add : (m n : ℕ) → at (pos (m + n)) ≡ at (pos m) +ℚ at (pos n)
+unfolding at
+at_add m n = rw (of_int_add (pos m) (pos n)) (ring (of_int (pos m) ∷ of_int (pos n) ∷ []) (search reads depth 90) tt)
+
+pub at_numeral : (m : ℕ) → at (pos m) ≡ ratio (pos m) 281474976710656
+unfolding at
+at_numeral m = sym (ratio_is_product (pos m) 281474976710656)
+
+pub at_next : (m : ℕ) → at (pos (m + 1)) ≡ at (pos m) +ℚ part 48
+at_next m = rw (at_add m 1, at_numeral 1) refl
