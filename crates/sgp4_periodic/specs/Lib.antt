@@ -3,4 +3,5 @@ pub mod Covered
 pub mod Ellipse
 pub mod Guards
 pub mod Numerals
+pub mod Placed
 pub mod Unplaced

@@ -13,7 +13,7 @@ ghost use Rattle.sgp4_periodic.specs.Ellipse.{EllipseReach, IsHeldEllipse};
 
 use crate::ellipse::Ellipse;
 use crate::latitude::{
-    cosine_of_latitude, cosine_of_twice, cosine_part, over_one_more, sine_of_latitude,
+    cosine_of_latitude, cosine_of_twice, cosine_part, over_one_plus, sine_of_latitude,
     sine_of_twice, sine_part,
 };
 use crate::numerals::one;
@@ -52,7 +52,7 @@ pub(crate) fn corrected_at<E: Enc>(
     let (sine, cosine) = root.sincos();
     let near = one::<E>().minus(cosine_part(ellipse.ax, ellipse.ay, sine, cosine));
     let b = ellipse.rest.sqrt();
-    let f = over_one_more(sine_part(ellipse.ax, ellipse.ay, sine, cosine), b);
+    let f = over_one_plus(sine_part(ellipse.ax, ellipse.ay, sine, cosine), b);
     let su = sine_of_latitude(sine, ellipse.ax, ellipse.ay, f, near);
     let cu = cosine_of_latitude(cosine, ellipse.ax, ellipse.ay, f, near);
     let s2 = sine_of_twice(su, cu);

@@ -23,7 +23,7 @@ pub(crate) fn sine_part<E: Enc>(ax: E, ay: E, sine: E, cosine: E) -> E
 }
 
 /// `es` over 1 + b.
-pub(crate) fn over_one_more<E: Enc>(es: E, b: E) -> E
+pub(crate) fn over_one_plus<E: Enc>(es: E, b: E) -> E
     ensures { (h : Place) (x_es x_b : ℚ) (r_es r_b : Reach) → IsHeld E.covers E.extent E.tells es h x_es r_es → IsHeld E.covers E.extent E.tells b h x_b r_b → ¬ (one_ℚ +ℚ x_b ≡ zero_ℚ) → IsHeld E.covers E.extent E.tells result h (x_es /ℚ (one_ℚ +ℚ x_b)) (r_es /ᴿ (exactly_one +ᴿ r_b)) }
 {
     es.divided(one::<E>().plus(b))

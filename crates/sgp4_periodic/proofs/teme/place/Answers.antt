@@ -6,40 +6,43 @@ use Rattle.sgp4_periodic.proofs.teme.place.Goals as goal
 
 pub returns-in_err-root-clause-none : goal.returns-in_err-root-clause-none
 returns-in_err-root-clause-none g c =
-    rw c.from_residual.ensures (record {
+    rw c.from_residual.ensures (inl (record {
       ellipse = c.ellipse_of-ellipse.result;
       held = c.ellipse_of-ellipse.ensures;
-      cause = inl (inl (c.in_err-root.ensures.none.0 refl));
-    })
+      outside = inl (c.in_err-root.ensures.none.0 refl);
+    }))
 
 pub returns-then-not-lie_above_0-clause-none : goal.returns-then-not-lie_above_0-clause-none
-returns-then-not-lie_above_0-clause-none g c = record {
+returns-then-not-lie_above_0-clause-none g c = inl (record {
   ellipse = c.ellipse_of-ellipse.result;
   held = c.ellipse_of-ellipse.ensures;
-  cause = inl (inr (λ above. untrue c.if-not-lie_above_0.true (c.lie_above_0.ensures.1 (rw c.bounds.ensures above))));
-}
+  outside = inr (λ above. untrue c.if-not-lie_above_0.true (c.lie_above_0.ensures.1 (rw c.bounds.ensures above)));
+})
 
 pub returns-then-not-are_at_least_1-clause-none : goal.returns-then-not-are_at_least_1-clause-none
-returns-then-not-are_at_least_1-clause-none g c = record {
-  ellipse = c.ellipse_of-ellipse.result;
-  held = c.ellipse_of-ellipse.ensures;
-  cause = inr (record {
-    root = c.in_ok-root.root;
-    roots = c.in_ok-root.ensures.covers;
-    mrt = c.corrected_at-at.result.mrt;
-    held = λ h pi angle k m q v r n e s is_pi consts mean ellipse root p.
-        (c.corrected_at-at.ensures h pi angle k m q v r n e s is_pi consts mean ellipse root p).mrt;
-    low = λ above. untrue c.if-not-are_at_least_1.true (c.are_at_least_1.ensures.1 (rw c.bounds-2.ensures above));
-  });
-}
+returns-then-not-are_at_least_1-clause-none g c = inr (record {
+  mrt = c.corrected_at-at.result.mrt;
+  held = λ h pi angle k m q v r n sum is_pi consts mean p sized.
+      let ellipse = c.ellipse_of-ellipse.ensures h pi k m q r n is_pi consts mean (ellipse_of_position p) in
+      let root = c.in_ok-root.ensures.held h pi _ _ _ angle _ _ _ sum is_pi ellipse.u ellipse.ax ellipse.ay sized (record { turn = _; solves = p.kepler }) in
+      let at = c.corrected_at-at.ensures h pi angle k m q v _ _ _ _ is_pi consts mean ellipse root p in
+      at.mrt;
+  low = λ above. untrue c.if-not-are_at_least_1.true (c.are_at_least_1.ensures.1 (rw c.bounds-2.ensures above));
+})
+
+pub returns-clause-held : goal.returns-clause-held
+returns-clause-held g c h pi angle k m v r n sum is_pi consts mean guarded sized =
+    let p = guarded.unguarded in
+    let ellipse = c.ellipse_of-ellipse.ensures h pi k m _ r n is_pi consts mean (ellipse_of_position p) in
+    let root = c.in_ok-root.ensures.held h pi _ _ _ angle _ _ _ sum is_pi ellipse.u ellipse.ax ellipse.ay sized (record { turn = _; solves = p.kepler }) in
+    let at = c.corrected_at-at.ensures h pi angle k m _ v _ _ _ _ is_pi consts mean ellipse root p in
+    c.position.ensures h pi k m _ v _ is_pi at p.corrected_latitude p.vector
 
 pub returns-clause-covers : goal.returns-clause-covers
 returns-clause-covers g c h pi angle k m v is_pi consts mean guarded =
     let p = guarded.unguarded in
-    let held_consts = covered_consts _ _ g.E.Enc.tells _ k consts h in
-    let held_mean = covered_mean _ _ g.E.Enc.tells _ h m mean in
-    let ellipse = c.ellipse_of-ellipse.ensures h pi k m _ _ _ is_pi held_consts held_mean (ellipse_of_position p) in
+    let ellipse = c.ellipse_of-ellipse.ensures h pi k m _ _ _ is_pi (covered_consts _ _ g.E.Enc.tells _ k consts h) (covered_mean _ _ g.E.Enc.tells _ h m mean) (ellipse_of_position p) in
     let root = c.in_ok-root.ensures.covers h pi _ _ _ angle is_pi ellipse.u.covers ellipse.ax.covers ellipse.ay.covers (record { turn = _; solves = p.kepler }) in
-    let at = c.corrected_at-at.ensures h pi angle k m _ v _ _ _ _ is_pi held_consts held_mean ellipse (covered root) p in
+    let at = c.corrected_at-at.ensures h pi angle k m _ v _ _ _ _ is_pi (covered_consts _ _ g.E.Enc.tells _ k consts h) (covered_mean _ _ g.E.Enc.tells _ h m mean) ellipse (covered root) p in
     let position = c.position.ensures h pi k m _ v _ is_pi at p.corrected_latitude p.vector in
     record { x = position.x.covers; y = position.y.covers; z = position.z.covers }

@@ -1,6 +1,6 @@
 use Rattle.fixed_iv.proofs.Held.{plus_held}
 use Rattle.fixed_iv.proofs.HeldQuotient.{divided_held}
-use Rattle.sgp4_periodic.proofs.latitude.over_one_more.Goals as goal
+use Rattle.sgp4_periodic.proofs.latitude.over_one_plus.Goals as goal
 
 pub returns : goal.returns
 returns g c h _ _ _ _ es b nonzero =
