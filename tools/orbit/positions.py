@@ -58,7 +58,7 @@ def main():
     with open("crates/rows_place/src/expected.rt", "w") as out:
         out.write("//! Expected values, made by tools/orbit/positions.py.\n\n")
         out.write("/// Element sets, and times of each.\n")
-        out.write("pub const SETS: usize = %d;\npub const TIMES: usize = %d;\n\n" % (len(SETS), len(MINUTES)))
+        out.write("pub const SETS: usize = %d;\n\npub const TIMES: usize = %d;\n\n" % (len(SETS), len(MINUTES)))
         out.write("/// Numbers of units of 2^-48, rounded down. Of each set: its 32 constants; then for each time the minutes from the\n")
         out.write("/// epoch, the five mean elements and the three coordinates.\n")
         out.write("#[rattlefmt::skip]\n")
