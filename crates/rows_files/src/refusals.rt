@@ -5,6 +5,21 @@ use std::alloc::{AllocError, Global};
 use std::test::Fail;
 use top_call::{run, status};
 
+/// A name and a line 1 alone.
+const LINE2_MISSING: &[u8] =
+    b"\n0 VANGUARD 1\n1 00005U 58002B   00179.78495062  .00000023  00000-0  28098-4 0  4753\n\n";
+
+/// A line 1 with another check digit.
+const CHECK_WRONG: &[u8] =
+    b"1 00005U 58002B   00179.78495062  .00000023  00000-0  28098-4 0  4754\n2 00005  34.2682 348.7242 1859667 331.7664  19.3264 10.82419157413667\n";
+
+/// Lines of two satellites.
+const MIXED: &[u8] =
+    b"1 25544U 98067A   08264.51782528 -.00002182  00000-0 -11606-4 0  2927\n2 00005  34.2682 348.7242 1859667 331.7664  19.3264 10.82419157413667\n";
+
+/// A message with a key that is not read.
+const UNSUPPORTED: &[u8] = b"\nCCSDS_OMM_VERS = 2.0\nSEMI_MAJOR_AXIS = 6730\n";
+
 #[test]
 fn the_first_fault_is_the_one_line(rt: HostRuntime) -> Result<(), Fail> {
     // Lines of words, the bytes of the file `a`, the line that is printed, and the status.
@@ -44,27 +59,17 @@ fn the_first_fault_is_the_one_line(rt: HostRuntime) -> Result<(), Fail> {
         (WORDS, b"\n \r\n\t\n\n  ", b"error catalogue empty\n", 4),
         (WORDS, VANGUARD1, b"error catalogue odd 1\n", 4),
         (WORDS, VANGUARD2, b"error catalogue odd 1\n", 4),
+        (WORDS, LINE2_MISSING, b"error catalogue odd 3\n", 4),
         (
             WORDS,
-            b"\n0 VANGUARD 1\n1 00005U 58002B   00179.78495062  .00000023  00000-0  28098-4 0  4753\n\n",
-            b"error catalogue odd 3\n",
-            4,
-        ),
-        (
-            WORDS,
-            b"1 00005U 58002B   00179.78495062  .00000023  00000-0  28098-4 0  4754\n2 00005  34.2682 348.7242 1859667 331.7664  19.3264 10.82419157413667\n",
+            CHECK_WRONG,
             b"error catalogue set 1 tle check 1 4 3\n",
             4,
         ),
+        (WORDS, MIXED, b"error catalogue set 1 tle differ\n", 4),
         (
             WORDS,
-            b"1 25544U 98067A   08264.51782528 -.00002182  00000-0 -11606-4 0  2927\n2 00005  34.2682 348.7242 1859667 331.7664  19.3264 10.82419157413667\n",
-            b"error catalogue set 1 tle differ\n",
-            4,
-        ),
-        (
-            WORDS,
-            b"\nCCSDS_OMM_VERS = 2.0\nSEMI_MAJOR_AXIS = 6730\n",
+            UNSUPPORTED,
             b"error catalogue set 2 omm unsupported SEMI_MAJOR_AXIS\n",
             4,
         ),

@@ -58,6 +58,10 @@ IsWritten OutOfMemory before after old now = IsRefused before after old now memo
 abbrev pub IsDoneOrWant : Outcome → Type 0
 IsDoneOrWant outcome = ((product : Product) × (outcome ≡ Done product)) ⊎ (outcome ≡ OutOfMemory)
 
+-- the run came to this outcome, or wanted memory
+abbrev pub IsThisOrWant : Outcome → Outcome → Type 0
+IsThisOrWant this outcome = (outcome ≡ this) ⊎ (outcome ≡ OutOfMemory)
+
 -- the product is the daylight of a place over a window
 abbrev pub IsCertifiedDay : DecimalRecord → DecimalRecord → WindowRecord → Product → Type 0
 IsCertifiedDay lat lon window (Day day) = IsDayAt lat lon window day

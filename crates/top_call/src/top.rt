@@ -1,5 +1,5 @@
 //! A run: words, files, product, writing.
-ghost use Rattle.std.specs.Prelude.{◌≡◌, ◌↔◌, ◌≤◌, ◌⊎◌, ◌<◌, ℕ, ℤ, List, length, Err, Ok, Some};
+ghost use Rattle.std.specs.Prelude.{◌≡◌, ◌↔◌, ◌≤◌, ◌<◌, ℕ, ℤ, List, length, Err, Ok, Some};
 ghost use Rattle.catalogue.specs.Place.{most_bytes};
 ghost use Rattle.catalogue.specs.declared.fault.CatFault.{CatFault};
 ghost use Rattle.outside_io.specs.Counts.{Rose};
@@ -12,7 +12,7 @@ ghost use Rattle.pass_words.specs.declared.fault.WordFault.TheVariants as faults
 ghost use Rattle.pass_words.specs.declared.request.Request.{Request};
 ghost use Rattle.top_call.specs.Causes.{IsCaused, IsOutcomeOf, IsPlainOutcome};
 ghost use Rattle.top_call.specs.Files.{AsksCatalogue, Holds, IsNamed, ReadsCatalogue};
-ghost use Rattle.top_call.specs.Outcome.{IsCertifiedDay, IsDoneOrWant, IsOfRequest, IsProductOf, IsWritten};
+ghost use Rattle.top_call.specs.Outcome.{IsCertifiedDay, IsDoneOrWant, IsOfRequest, IsProductOf, IsThisOrWant, IsWritten};
 ghost use Rattle.top_call.specs.Shelf.{AreCatalogues, AreRead, IsCounted, IsKept};
 ghost use Rattle.top_call.specs.declared.outcome.Product.{Product};
 
@@ -42,14 +42,21 @@ pub fn run<S: Shelf, K: Sink>(alloc: Global, words: &[Text], shelf: &mut S, out:
 
     ensures causes { IsCaused (S.held shelf.old) words.now result }
     ensures counts { IsCounted result (S.faults shelf.old) (S.faults shelf.new) (S.overs shelf.old) (S.overs shelf.new) }
-    ensures no_file { ((name : List ℕ) → ¬ (IsNamed words.now name)) → IsKept (S.faults shelf.old) (S.faults shelf.new) (S.overs shelf.old) (S.overs shelf.new) }
+    ensures no_file { ((name : List ℕ) → ¬ (IsNamed words.now name))
+        → IsKept (S.faults shelf.old) (S.faults shelf.new) (S.overs shelf.old) (S.overs shelf.new) }
     ensures faults_later { S.faults shelf.old ≤ S.faults shelf.new }
     ensures overs_later { S.overs shelf.old ≤ S.overs shelf.new }
 
     // Yielding to want of memory alone.
-    ensures completeness { (request : Request) → words_value words.now ≡ Ok request → AreRead (S.faults shelf.old) (S.faults shelf.new) words.now → AreCatalogues (S.held shelf.old) words.now → ¬ (Rose (K.faults out.old) (K.faults out.new)) → IsDoneOrWant result }
-    ensures bad_catalogues { (name : List ℕ) (instant : ℤ) (fault : CatFault) → AsksCatalogue words.now name instant → Holds (S.held shelf.old name) instant (Err fault) → ¬ (Rose (S.faults shelf.old) (S.faults shelf.new)) → (result ≡ Outcome.BadCatalogue fault) ⊎ (result ≡ Outcome.OutOfMemory) }
-    ensures long_files { (name bytes : List ℕ) (instant : ℤ) → AsksCatalogue words.now name instant → S.held shelf.old name ≡ Some bytes → most_bytes < length bytes → ¬ (Rose (S.faults shelf.old) (S.faults shelf.new)) → (result ≡ Outcome.TooLong) ⊎ (result ≡ Outcome.OutOfMemory) }
+    ensures completeness { (request : Request) → words_value words.now ≡ Ok request
+        → AreRead (S.faults shelf.old) (S.faults shelf.new) words.now → AreCatalogues (S.held shelf.old) words.now
+        → ¬ (Rose (K.faults out.old) (K.faults out.new)) → IsDoneOrWant result }
+    ensures bad_catalogues { (name : List ℕ) (instant : ℤ) (fault : CatFault) → AsksCatalogue words.now name instant
+        → Holds (S.held shelf.old name) instant (Err fault) → ¬ (Rose (S.faults shelf.old) (S.faults shelf.new))
+        → IsThisOrWant (Outcome.BadCatalogue fault) result }
+    ensures long_files { (name bytes : List ℕ) (instant : ℤ) → AsksCatalogue words.now name instant
+        → S.held shelf.old name ≡ Some bytes → most_bytes < length bytes
+        → ¬ (Rose (S.faults shelf.old) (S.faults shelf.new)) → IsThisOrWant Outcome.TooLong result }
 {
     match read_words(words) {
         Ok(request) => run_request(alloc, words, request, shelf, out),
@@ -74,7 +81,8 @@ pub fn run_for_nobody(
     shelf: &mut NeverFailShelf,
     out: &mut NeverFailSink,
 ) -> Outcome
-    ensures { (request : Request) → words_value words.now ≡ Ok request → AreCatalogues (λ name. Some (supplied shelf.old.files name)) words.now → IsDoneOrWant result }
+    ensures { (request : Request) → words_value words.now ≡ Ok request
+        → AreCatalogues (λ name. Some (supplied shelf.old.files name)) words.now → IsDoneOrWant result }
 {
     run(alloc, words, shelf, out)
 }
