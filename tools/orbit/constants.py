@@ -53,14 +53,19 @@ def main():
         out.write("//! Expected values, made by tools/orbit/constants.py.\n\n")
         out.write("/// The mean motion in revolutions per day, the eccentricity, four angles in degrees and the drag term.\n")
         out.write("pub type Given = [&'static [u8]; 7];\n\n")
-        out.write("/// What is given, and the constants: for each the numbers of units of 2^-48 next to it.\n")
-        out.write("pub const ROWS: [(Given, [[i64; 2]; 32]); %d] = [\n" % len(SETS))
+        out.write("/// What is given.\n")
+        out.write("pub const GIVEN: [Given; %d] = [\n" % len(SETS))
+        for numbers in SETS:
+            out.write("    [%s],\n" % ", ".join('b"%s"' % word for word in numbers))
+        out.write("];\n\n")
+        out.write("/// The constants of each set: for each the numbers of units of 2^-48 next to it.\n")
+        out.write("pub const EXPECTED: [[[i64; 2]; 32]; %d] = [\n" % len(SETS))
         for numbers in SETS:
             satellite = Satellite(*numbers)
             assert satellite.period_minutes() < 225 and satellite.perigee_km() >= 300
             kept = satellite.kept()
             fields = [units(kept[name] * 16384**k) for k, names in enumerate(POWERS) for name in names.split()]
-            out.write("    ([%s], [%s]),\n" % (", ".join('b"%s"' % word for word in numbers), ", ".join(fields)))
+            out.write("    [%s],\n" % ", ".join(fields))
         out.write("];\n")
 
 

@@ -1,8 +1,8 @@
 //! The constants of twenty element sets, against values from outside.
-use crate::expected::ROWS;
-use crate::sets::set_of;
+use crate::expected::EXPECTED;
+use crate::sets::set_at;
 use enc_plain::Plain;
-use fixed_iv::Enc;
+use fixed_iv::{Enc, Iv};
 use sgp4_init::prepare;
 use sgp4_shape::Consts;
 
@@ -13,34 +13,70 @@ const WIDEST: [i64; 32] = [
     1024, 512,
 ];
 
-/// The constants in the order of the expected values.
-fn in_order<E: Enc>(k: &Consts<E>) -> [E; 32] {
+/// The bounds of the constants, in the order of the expected values.
+fn bounds_of<E: Enc>(k: &Consts<E>) -> [Iv; 32] {
     [
-        k.i, k.c, k.si, k.e, k.w0, k.o0, k.m0, k.bstar, k.a, k.eta, k.con41, k.c5, k.xmcof,
-        k.xlcof, k.aycof, k.delmo, k.sin_m0, k.n0, k.mdot, k.wdot, k.odot, k.c1, k.c4, k.omgcof,
-        k.t2cof, k.d2, k.nodecf, k.t3cof, k.d3, k.t4cof, k.d4, k.t5cof,
+        k.i.bounds(),
+        k.c.bounds(),
+        k.si.bounds(),
+        k.e.bounds(),
+        k.w0.bounds(),
+        k.o0.bounds(),
+        k.m0.bounds(),
+        k.bstar.bounds(),
+        k.a.bounds(),
+        k.eta.bounds(),
+        k.con41.bounds(),
+        k.c5.bounds(),
+        k.xmcof.bounds(),
+        k.xlcof.bounds(),
+        k.aycof.bounds(),
+        k.delmo.bounds(),
+        k.sin_m0.bounds(),
+        k.n0.bounds(),
+        k.mdot.bounds(),
+        k.wdot.bounds(),
+        k.odot.bounds(),
+        k.c1.bounds(),
+        k.c4.bounds(),
+        k.omgcof.bounds(),
+        k.t2cof.bounds(),
+        k.d2.bounds(),
+        k.nodecf.bounds(),
+        k.t3cof.bounds(),
+        k.d3.bounds(),
+        k.t4cof.bounds(),
+        k.d4.bounds(),
+        k.t5cof.bounds(),
     ]
 }
 
-/// Whether the enclosure holds a number next to both of these units, and is at most so many units wide.
-fn holds<E: Enc>(enclosure: E, units: [i64; 2], widest: i64) -> bool {
-    let (lo, hi) = enclosure.bounds().ends();
+/// Whether the interval holds a number next to both of these units, and is at most so many units wide.
+fn holds(bounds: Iv, units: [i64; 2], widest: i64) -> bool {
+    let (lo, hi) = bounds.ends();
     lo <= units[0] && units[1] <= hi && hi.wrapping_sub(lo) <= widest
+}
+
+/// Whether each constant is enclosed, and narrow.
+fn all_hold(bounds: &[Iv; 32], expected: &[[i64; 2]; 32]) -> bool {
+    for k in 0..32 {
+        if !holds(bounds[k], expected[k], WIDEST[k]) {
+            return false;
+        }
+    }
+    true
 }
 
 #[test]
 fn constants_hold_the_values_from_outside(rt: HostRuntime) {
-    for row in ROWS.iter() {
-        match set_of(&row.0) {
+    for (place, expected) in EXPECTED.iter().enumerate() {
+        match set_at(place) {
             Some(set) => match prepare::<Plain>(&set) {
                 Ok(consts) => {
-                    let fields = in_order(&consts);
-                    for k in 0..32 {
-                        assert!(rt;
-                            holds(fields[k], row.1[k], WIDEST[k]),
-                            "the constant {k} is enclosed"
-                        );
-                    }
+                    assert!(rt;
+                        all_hold(&bounds_of(&consts), expected),
+                        "the values are enclosed"
+                    );
                 }
                 Err(_) => assert!(rt; false, "the set is accepted"),
             },

@@ -1,11 +1,16 @@
 //! Element sets for the tests.
-use crate::expected::Given;
+use crate::expected::{GIVEN, Given};
 use elements::{
     Elements, Instant, is_angle, is_eccentricity, is_inclination, is_motion, read_decimal,
 };
 
+/// The element set at a place of the table.
+pub fn set_at(place: usize) -> Option<Elements> {
+    set_of(GIVEN.get(place)?)
+}
+
 /// The element set of these texts, at an epoch of its own.
-pub fn set_of(given: &Given) -> Option<Elements> {
+fn set_of(given: &Given) -> Option<Elements> {
     let motion = read_decimal(given[0]).ok()?;
     let ecc = read_decimal(given[1]).ok()?;
     let incl = read_decimal(given[2]).ok()?;
