@@ -78,6 +78,7 @@ fn likely_spans_of(product: &Product) -> Option<u32> {
     match product {
         Product::Day(day) => likely_spans(day, 240 * HOUR),
         Product::Shown(_) => None,
+        Product::Located(_) => None,
     }
 }
 
