@@ -47,7 +47,7 @@ class Accepted:
             self.incl = rng.choice((0, 1_750_000, 634_349, 900_000, rng.randrange(1_750_001)))
             self.angles = [rng.choice((0, 900_000, 1_800_000, 3_600_000, rng.randrange(3_600_001))) for _ in range(3)]
             self.drag = (rng.choice((0, 1_000, -1_000, rng.randrange(-99_999, 100_000))), 0)
-            self.drag = (self.drag[0], -1) if abs(self.drag[0]) == 1_000 else (self.drag[0], -2)
+            self.drag = (self.drag[0], -1) if abs(self.drag[0]) == 1_000 else (self.drag[0], -3)
             self.number = number
             text = lambda units, places: "%d.%0*d" % (units // 10**places, places, units % 10**places)  # noqa: E731
             drag = mp.mpf(self.drag[0]) * mp.mpf(10) ** (self.drag[1] - 5)
