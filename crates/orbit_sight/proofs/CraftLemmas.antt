@@ -49,20 +49,6 @@ position_held set at consts time mean position r craft t means positions p =
     let v = positions middle p.pi p.root p.constants p.mean r p.pi_is c m p.position_is in
     record { x = v.x; y = v.y; z = v.z }
 
-pub mean_unknown : (set : ElementsRecord) (at : ℤ) (consts : Consts Plain) (time : Plain) → IsCraft set consts → ((h : Place) → plain_covers time h (units_from set.epoch at)) →
-    IsOutOfGuard plain_covers plain_extent true consts time → IsUnknownAt set at
-mean_unknown set at consts time craft t out = record { consts = consts; enclosed = craft.enclosed; cause = inl (record { time = time; time_is = t; out_of_guard = out }) }
-
-pub position_unknown : (set : ElementsRecord) (at : ℤ) (consts : Consts Plain) (time : Plain) (mean : Mean Plain) → IsCraft set consts → ((h : Place) → plain_covers time h (units_from set.epoch at)) →
-    CoverMeans consts time mean → IsUnplaced plain_covers plain_extent true consts mean → IsUnknownAt set at
-position_unknown set at consts time mean craft t means u =
-    record { consts = consts; enclosed = craft.enclosed; cause = inr (record { mean = mean; mean_is = mean_at set at consts time mean t means; cause = inl u }) }
-
-pub position_unbounded : (set : ElementsRecord) (at : ℤ) (consts : Consts Plain) (time : Plain) (mean : Mean Plain) (position : Vec3 Plain) → IsCraft set consts → ((h : Place) → plain_covers time h (units_from set.epoch at)) →
-    CoverMeans consts time mean → CoverPositions consts mean position → (¬ IsBoundedVector (record { x = position.x.iv; y = position.y.iv; z = position.z.iv })) → IsUnknownAt set at
-position_unbounded set at consts time mean position craft t means positions u =
-    record { consts = consts; enclosed = craft.enclosed; cause = inr (record { mean = mean; mean_is = mean_at set at consts time mean t means; cause = inr (record { position = position; covers = positions; unbounded = u }) }) }
-
 -- a vector that is kept holds what it held, and one that is not kept is not bounded
 pub if_kept : (P : Vec3 Iv → Type 0) (o : Option (Vec3 Iv)) (v : Vec3 Iv) → IfSome o (λ kept. (kept ≡ v) × IsBoundedVector v) → P v → IfSome o P
 if_kept P None v h p = tt

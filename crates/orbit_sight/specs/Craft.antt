@@ -1,26 +1,30 @@
--- What a craft keeps of an element set, and when its position is not enclosed.
-use Rattle.std.specs.Prelude.{◌⊎◌, ℤ, true}
-use Rattle.exact.specs.Rational.{ℚ}
+-- What a craft keeps of an element set, and when its position is not between bounds.
+use Rattle.std.specs.Prelude.{◌≡◌, ◌⊎◌, ℕ, ℤ, true}
+use Rattle.exact.specs.Rational.{ℚ, ◌*ℚ◌}
 use Rattle.elements.specs.Elements.{ElementsRecord, record_of_elements}
 use Rattle.enc_plain.specs.declared.plain.Plain.{Plain}
 use Rattle.fixed_iv.specs.Extent.{Extent, extent_of}
-use Rattle.fixed_iv.specs.Holds.{Holds, IsBounded}
+use Rattle.fixed_iv.specs.Holds.{Holds, IsBounded, IsTightest}
 use Rattle.fixed_iv.specs.Place.{Place}
+use Rattle.fixed_iv.specs.Reach.{IsHeld, Reach}
 use Rattle.fixed_iv.specs.declared.iv.Iv.{Iv}
 use Rattle.fixed_iv.specs.declared.vec3.Vec3.{Vec3}
-use Rattle.sgp4_drag.specs.Secular.{IsOutOfGuard}
+use Rattle.kepler_enc.specs.Guess.{AreSized}
+use Rattle.sgp4_drag.specs.Secular.{IsOutOfGuard, reach_mean}
+use Rattle.sgp4_init.specs.ReachConsts.{reach_consts}
 use Rattle.sgp4_model.specs.Angle.{IsPi}
 use Rattle.sgp4_model.specs.Constants.{IsConsts}
-use Rattle.sgp4_model.specs.EpochTime.{minutes_since_epoch}
 use Rattle.sgp4_model.specs.MeanElements.{IsMean}
 use Rattle.sgp4_model.specs.OrbitRecords.{ConstRecord, MeanRecord}
 use Rattle.sgp4_model.specs.Position.{IsPosition}
-use Rattle.sgp4_model.specs.Time.{instant_of_nanos}
 use Rattle.sgp4_model.specs.Vector.{Vector}
 use Rattle.sgp4_motion.specs.Fate.{IsNearEarth, IsOrdinary}
-use Rattle.sgp4_periodic.specs.Covered.{CoversPosition}
+use Rattle.sgp4_periodic.specs.Covered.{IsHeldPosition}
+use Rattle.sgp4_periodic.specs.Placed.{reach_place}
 use Rattle.sgp4_periodic.specs.Unplaced.{IsUnplaced}
-use Rattle.sgp4_shape.specs.Covering.{CoversConsts, CoversMean}
+use Rattle.sgp4_shape.specs.Covering.{CoversConsts, unit_minutes}
+use Rattle.sgp4_shape.specs.HeldConsts.{ConstReach, IsHeldConsts}
+use Rattle.sgp4_shape.specs.HeldMean.{IsHeldMean, MeanReach}
 use Rattle.sgp4_shape.specs.declared.consts.Consts.{Consts}
 use Rattle.sgp4_shape.specs.declared.mean.Mean.{Mean}
 use Rattle.orbit_sight.specs.Moment.{units_from}
@@ -36,9 +40,14 @@ plain_extent a = extent_of a.iv
 abbrev pub EncloseConsts : ElementsRecord → Consts Plain → Type 0
 EncloseConsts set consts = (pi : ℚ) (k : ConstRecord) → IsPi pi → IsConsts (record_of_elements set) pi k → CoversConsts plain_covers consts k
 
+-- they cover them, and are as narrow as the numerals of the constants say
+abbrev pub HoldConsts : ElementsRecord → Consts Plain → Type 0
+HoldConsts set consts = (h : Place) (pi : ℚ) (k : ConstRecord) → IsPi pi → IsConsts (record_of_elements set) pi k → IsHeldConsts plain_covers plain_extent true consts h k reach_consts
+
 -- a set that is accepted at whatever instants, with enclosures of its constants
 pub record IsCraft (set : ElementsRecord) (consts : Consts Plain) : Type 0 where
   pub enclosed : EncloseConsts set consts
+  pub held : HoldConsts set consts
   pub ordinary : IsOrdinary (record_of_elements set)
   pub near_earth : IsNearEarth (record_of_elements set)
 
@@ -54,27 +63,27 @@ pub record IsBoundedVector (v : Vec3 Iv) : Type 0 where
   pub y : IsBounded v.y
   pub z : IsBounded v.z
 
--- some enclosure of the position for these constants and mean elements is not bounded
+-- some enclosure of the position, as narrow as its equations give, is not bounded
 pub record IsUnbounded (consts : Consts Plain) (mean : Mean Plain) : Type 0 where
   pub position : Vec3 Plain
-  pub covers : (h : Place) (pi root : ℚ) (k : ConstRecord) (m : MeanRecord) (r : Vector) → IsPi pi → CoversConsts plain_covers consts k → CoversMean plain_covers mean h m → IsPosition k m pi root r → CoversPosition plain_covers position h r
+  pub held : (h : Place) (pi root : ℚ) (k : ConstRecord) (m : MeanRecord) (v : Vector) (r : ConstReach) (n : MeanReach) (sum : ℕ) → IsPi pi →
+      IsHeldConsts plain_covers plain_extent true consts h k r → IsHeldMean plain_covers plain_extent true mean h m n →
+      (p : IsPosition k m pi root v) → AreSized sum p.periodic.ax p.periodic.ay → IsHeldPosition plain_covers plain_extent true position h v (reach_place r n sum)
   pub unbounded : ¬ IsBoundedVector (record { x = position.x.iv; y = position.y.iv; z = position.z.iv })
 
-module _ (set : ElementsRecord) (at : ℤ) (consts : Consts Plain) where
-  -- the mean elements at the instant are not enclosed: the bounds of the eccentricity do not certify its guard
-  pub record IsMeanUnknown : Type 0 where
-    pub time : Plain
-    pub time_is : (h : Place) → plain_covers time h (units_from set.epoch at)
-    pub out_of_guard : IsOutOfGuard plain_covers plain_extent true consts time
+-- some enclosures of the mean elements, as narrow as their equations give, do not certify a position, or give none with bounds
+pub record IsPositionUnknown (consts : Consts Plain) (time : Plain) : Type 0 where
+  pub mean : Mean Plain
+  pub held : (h : Place) (pi x : ℚ) (k : ConstRecord) (m : MeanRecord) (r : ConstReach) (n : Reach) →
+      IsHeldConsts plain_covers plain_extent true consts h k r → IsHeld plain_covers plain_extent true time h x n → IsPi pi →
+      IsMean k pi (unit_minutes 1 *ℚ x) m → IsHeldMean plain_covers plain_extent true mean h m (reach_mean r n)
+  pub cause : IsUnplaced plain_covers plain_extent true consts mean ⊎ IsUnbounded consts mean
 
-  -- they are, and the position is not, or not between bounds
-  pub record IsPositionUnknown : Type 0 where
-    pub mean : Mean Plain
-    pub mean_is : (h : Place) (pi : ℚ) (k : ConstRecord) (m : MeanRecord) → IsPi pi → CoversConsts plain_covers consts k → IsMean k pi (minutes_since_epoch (record_of_elements set) (instant_of_nanos at)) m → CoversMean plain_covers mean h m
-    pub cause : IsUnplaced plain_covers plain_extent true consts mean ⊎ IsUnbounded consts mean
-
--- some enclosures of the constants of the set, and of what they lead to, do not show bounds of its position at an instant
+-- some enclosures of the constants of the set, as narrow as their numerals say, do not show at the tightest time of the instant
+-- that the eccentricity is inside its guard, or where the position lies
 pub record IsUnknownAt (set : ElementsRecord) (at : ℤ) : Type 0 where
   pub consts : Consts Plain
-  pub enclosed : EncloseConsts set consts
-  pub cause : IsMeanUnknown set at consts ⊎ IsPositionUnknown set at consts
+  pub held : HoldConsts set consts
+  pub time : Plain
+  pub time_is : IsTightest (λ x. x ≡ units_from set.epoch at) time.iv
+  pub cause : IsOutOfGuard plain_covers plain_extent true consts time ⊎ IsPositionUnknown consts time

@@ -58,7 +58,9 @@ impl Craft {
         ensures bounded { IfSome result IsBoundedVector }
         ensures none { IfNone result (IsUnknownAt self.now at) }
     {
-        let time = Plain::constant(time_from(self.set.epoch(), at));
+        let time = Plain {
+            iv: time_from(self.set.epoch(), at),
+        };
         match secular(&self.consts, time) {
             Some(mean) => match place(&self.consts, &mean) {
                 Some(position) => bounded(bounds_of(&position)),
