@@ -8,6 +8,6 @@ mod RadiusLemmas
 mod RestLemmas
 mod RoundLemmas
 mod RootLemmas
-mod SizeLemmas
+pub mod SizeLemmas
 mod SizedLemmas
 mod SpreadLemmas

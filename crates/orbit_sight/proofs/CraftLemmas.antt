@@ -27,7 +27,7 @@ use Rattle.orbit_sight.specs.Moment.{units_from}
 use Rattle.orbit_sight.proofs.MomentLemmas.{minutes_are}
 
 -- enclosed constants and an enclosed time give enclosed mean elements
-abbrev CoverMeans : Consts Plain → Plain → Mean Plain → Type 0
+abbrev pub CoverMeans : Consts Plain → Plain → Mean Plain → Type 0
 CoverMeans consts time mean = (h : Place) (pi x : ℚ) (k : ConstRecord) (m : MeanRecord) → CoversConsts plain_covers consts k → plain_covers time h x → IsPi pi → IsMean k pi (unit_minutes 1 *ℚ x) m → CoversMean plain_covers mean h m
 
 -- enclosed constants and mean elements give an enclosed position

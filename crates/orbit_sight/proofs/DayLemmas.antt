@@ -66,7 +66,7 @@ pub record SomeDaySolution (lat lon at : ℚ) : Type 0 where
   pub product : ℚ
   pub is : IsDaySolution lat lon at product
 
-some_pi : IsPi least_pi
+pub some_pi : IsPi least_pi
 some_pi = record { low = le_refl _; high = le_by [] (known 1 (10 ^ 36)) (search reads depth 90) tt }
 
 abbrev own : ℚ → Pair

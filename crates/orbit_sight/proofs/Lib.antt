@@ -1,4 +1,5 @@
 pub mod CellLemmas
 mod CraftLemmas
 pub mod DayLemmas
+mod ExistLemmas
 mod MomentLemmas

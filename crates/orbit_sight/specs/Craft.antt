@@ -18,7 +18,7 @@ use Rattle.sgp4_model.specs.MeanElements.{IsMean}
 use Rattle.sgp4_model.specs.OrbitRecords.{ConstRecord, MeanRecord}
 use Rattle.sgp4_model.specs.Position.{IsPosition}
 use Rattle.sgp4_model.specs.Vector.{Vector}
-use Rattle.sgp4_motion.specs.Fate.{IsNearEarth, IsOrdinary}
+use Rattle.sgp4_motion.specs.Fate.{IsBetweenLimits, IsNearEarth, IsOrdinary}
 use Rattle.sgp4_periodic.specs.Covered.{IsHeldPosition}
 use Rattle.sgp4_periodic.specs.Placed.{reach_place}
 use Rattle.sgp4_periodic.specs.Unplaced.{IsUnplaced}
@@ -49,6 +49,7 @@ pub record IsCraft (set : ElementsRecord) (consts : Consts Plain) : Type 0 where
   pub enclosed : EncloseConsts set consts
   pub held : HoldConsts set consts
   pub ordinary : IsOrdinary (record_of_elements set)
+  pub limits : IsBetweenLimits (record_of_elements set)
   pub near_earth : IsNearEarth (record_of_elements set)
 
 -- each interval holds the coordinate

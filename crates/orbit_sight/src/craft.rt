@@ -36,7 +36,7 @@ impl Craft {
     ghost use Rattle.sgp4_model.specs.PositionAt.{IsPositionAt};
     ghost use Rattle.sgp4_model.specs.Time.{instant_of_nanos};
     ghost use Rattle.sgp4_model.specs.Vector.{Vector};
-    ghost use Rattle.sgp4_motion.specs.Fate.{IsNearEarth, IsOrdinary, IsRefusedExactly, MayRefuseSet};
+    ghost use Rattle.sgp4_motion.specs.Fate.{IsAway, IsNearEarth, IsOrdinary, IsRefusedExactly, MayRefuseSet};
 
     /// The satellite of an element set, or why the set is refused.
     pub fn make(set: &Elements) -> Result<Craft, SatFault>
@@ -56,6 +56,7 @@ impl Craft {
     pub fn bounds_at(&self, at: Instant) -> Option<Vec3<Iv>>
         ensures holds { IfSome result (λ v. (r : Vector) → IsPositionAt (record_of_elements self.now) (instant_of_nanos at) r → HoldsVector v r) }
         ensures bounded { IfSome result IsBoundedVector }
+        ensures exists { IfSome result (λ _. (¬ IsAway (record_of_elements self.now) at) → (r : Vector) × IsPositionAt (record_of_elements self.now) (instant_of_nanos at) r) }
         ensures none { IfNone result (IsUnknownAt self.now at) }
     {
         let time = Plain {

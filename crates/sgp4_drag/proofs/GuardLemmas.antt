@@ -1,11 +1,18 @@
 -- The guard on the eccentricity, by the ends of its bounds.
-use Rattle.std.proofs.Common.{arith, ℤ, pos, negsuc, ◌≤ℤ◌, ◌<ℤ◌, ◌*ℤ◌, ◌^◌, T, not, Bool, true, false}
+use Rattle.std.proofs.Common.{[], ◌∷◌, arith, ℤ, pos, negsuc, ◌≤ℤ◌, ◌<ℤ◌, ◌*ℤ◌, ◌^◌, T, not, Bool, true, false}
 use Rattle.std.proofs.lemmas.Int.{ints, by_lt_z}
 use native.Mathlib.Nat.{zero-lt-suc}
-use Rattle.exact.specs.Rational.{ratio, number, neg_ℚ, one_ℚ, ◌≤ℚ◌, ◌<ℚ◌, ◌-ℚ◌, at_least_0}
+use Rattle.exact.specs.Rational.{ℚ, of_int, ratio, number, neg_ℚ, one_ℚ, ◌≤ℚ◌, ◌<ℚ◌, ◌-ℚ◌, at_least_0}
 use Rattle.exact.proofs.Fractions.{le_of_cross, cross_of_le}
+use Rattle.exact.proofs.Integers.{of_int_is, of_int_le}
+use Rattle.exact.proofs.Order.{gap, known, le_by, le_trans, ◌⊕◌, ◌⊗◌}
+use Rattle.exact.proofs.RationalRing.{reads}
+use Rattle.exact.proofs.Strict.{lt_by, positive_known, positive_sum}
+use Rattle.fixed_iv.specs.Ends.{in_units}
+use Rattle.fixed_iv.specs.Holds.{Holds}
 use Rattle.fixed_iv.specs.declared.iv.Iv.{Iv}
 use Rattle.sgp4_drag.specs.Guard.{IsInsideGuard}
+use Rattle.sgp4_model.specs.MeanElements.{IsEccentricityGuarded}
 use Rattle.sgp4_model.specs.Numerals.{decimal}
 
 above_low : (n : ℤ) → negsuc 281474976709 ≤ℤ n → neg_ℚ (decimal 1 3) ≤ℚ ratio n (2 ^ 48)
@@ -61,3 +68,20 @@ guard_of_ends v f g = record {
 
 pub ends_of_guard : (v : Iv) → IsInsideGuard v → (negsuc 281474976709 ≤ℤ v.lo) × (v.hi <ℤ pos 281474976710656)
 ends_of_guard v h = (low_above v.lo h.low.low, one_not_below v.hi h.high.high)
+
+-- ---- what bounds inside the guard hold is guarded
+units_guarded : (x : ℚ) → of_int (negsuc 281474976709) ≤ℚ in_units x → in_units x ≤ℚ of_int (pos 281474976710655) → IsEccentricityGuarded x
+units_guarded x f g =
+    let low = rw (of_int_is (negsuc 281474976709)) at f in
+    let high = rw (of_int_is (pos 281474976710655)) at g in
+    record {
+      low = le_by (x ∷ []) (known 1 281474976710656 ⊗ gap low ⊕ known 656 281474976710656000) (search reads depth 90) tt;
+      high = lt_by (x ∷ []) (positive_sum (positive_known 0 281474976710656) (known 1 281474976710656 ⊗ gap high)) (search reads depth 90) tt;
+    }
+
+pub held_guarded : (v : Iv) (x : ℚ) → IsInsideGuard v → Holds v x → IsEccentricityGuarded x
+held_guarded v x inside held =
+    let ends = ends_of_guard v inside in
+    units_guarded x
+    (le_trans (of_int_le ends.0) (held.low (omega (arith, ints, ends.0))))
+    (le_trans (held.high (omega (arith, ints, ends.1))) (of_int_le (omega (arith, ints, ends.1))))

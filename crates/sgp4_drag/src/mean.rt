@@ -22,6 +22,7 @@ use sgp4_shape::{Consts, Mean};
 pub fn secular<E: Enc>(consts: &Consts<E>, t: E) -> Option<Mean<E>>
     ensures covers { IfSome result (λ mean. (h : Place) (pi x : ℚ) (k : ConstRecord) (m : MeanRecord) → CoversConsts E.covers consts.now k → E.covers t h x → IsPi pi → IsMean k pi (unit_minutes 1 *ℚ x) m → CoversMean E.covers mean h m) }
     ensures held { IfSome result (λ mean. (h : Place) (pi x : ℚ) (k : ConstRecord) (m : MeanRecord) (r : ConstReach) (n : Reach) → IsHeldConsts E.covers E.extent E.tells consts.now h k r → IsHeld E.covers E.extent E.tells t h x n → IsPi pi → IsMean k pi (unit_minutes 1 *ℚ x) m → IsHeldMean E.covers E.extent E.tells mean h m (reach_mean r n)) }
+    ensures exists { IfSome result (λ _. (h : Place) (pi x : ℚ) (k : ConstRecord) → CoversConsts E.covers consts.now k → E.covers t h x → IsPi pi → (m : MeanRecord) × IsMean k pi (unit_minutes 1 *ℚ x) m) }
     ensures none { IfNone result (IsOutOfGuard E.covers E.extent E.tells consts.now t) }
 {
     let k = consts;

@@ -1,3 +1,4 @@
 mod EquationLemmas
+mod ExistLemmas
 mod GuardLemmas
 mod PlaceLemmas

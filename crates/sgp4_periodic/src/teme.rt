@@ -1,9 +1,10 @@
 //! The position at a time.
 ghost use Rattle.std.specs.Prelude.{ℕ, IfNone, IfSome};
-ghost use Rattle.exact.specs.Rational.{ℚ};
+ghost use Rattle.exact.specs.Rational.{ℚ, ◌-ℚ◌, ◌*ℚ◌, ◌^ℚ◌, one_ℚ};
 ghost use Rattle.fixed_iv.specs.Place.{Place};
 ghost use Rattle.kepler_enc.specs.Guess.{AreSized};
 ghost use Rattle.sgp4_model.specs.Angle.{IsPi};
+ghost use Rattle.sgp4_model.specs.Numerals.{IsDivisor};
 ghost use Rattle.sgp4_model.specs.OrbitRecords.{ConstRecord, MeanRecord};
 ghost use Rattle.sgp4_model.specs.Position.{IsPosition};
 ghost use Rattle.sgp4_model.specs.Vector.{Vector};
@@ -28,6 +29,7 @@ use sgp4_shape::{Consts, Mean};
 pub fn place<E: Enc>(consts: &Consts<E>, mean: &Mean<E>) -> Option<Vec3<E>>
     ensures covers { IfSome result (λ position. (h : Place) (pi root : ℚ) (k : ConstRecord) (m : MeanRecord) (v : Vector) → IsPi pi → CoversConsts E.covers consts.now k → CoversMean E.covers mean.now h m → IsPosition k m pi root v → CoversPosition E.covers position h v) }
     ensures held { IfSome result (λ position. (h : Place) (pi root : ℚ) (k : ConstRecord) (m : MeanRecord) (v : Vector) (r : ConstReach) (n : MeanReach) (sum : ℕ) → IsPi pi → IsHeldConsts E.covers E.extent E.tells consts.now h k r → IsHeldMean E.covers E.extent E.tells mean.now h m n → (p : IsPosition k m pi root v) → AreSized sum p.periodic.ax p.periodic.ay → IsHeldPosition E.covers E.extent E.tells position h v (reach_place r n sum)) }
+    ensures exists { IfSome result (λ _. (h : Place) (pi : ℚ) (k : ConstRecord) (m : MeanRecord) → IsPi pi → CoversConsts E.covers consts.now k → CoversMean E.covers mean.now h m → IsDivisor (m.am *ℚ (one_ℚ -ℚ m.em ^ℚ 2)) → (root : ℚ) × ((v : Vector) × IsPosition k m pi root v)) }
     ensures none { IfNone result (IsUnplaced E.covers E.extent E.tells consts.now mean.now) }
 {
     let ellipse = ellipse_of(consts, mean);

@@ -1,8 +1,11 @@
-use Rattle.std.proofs.Common.{◌∙◌, ap, sym}
+use Rattle.std.proofs.Common.{◌∙◌, ap, arith, sym}
 use Rattle.exact.specs.Rational.{◌+ℚ◌, ◌-ℚ◌, ◌*ℚ◌}
 use Rattle.fixed_iv.specs.Reach.{nothing}
 use Rattle.fixed_iv.proofs.Held.{covered, held_at, minus_held, plus_held, times_held, turn_held}
 use Rattle.sgp4_shape.proofs.CoveredConsts.{covered_consts}
+use Rattle.sgp4_drag.proofs.Draft.{mean_elements_exist}
+use Rattle.sgp4_shape.specs.Covering.{unit_minutes}
+use Rattle.sgp4_drag.proofs.GuardLemmas.{held_guarded}
 use Rattle.sgp4_drag.proofs.SecularLemmas.{correction_is, decay_is, factor_is, longitude_is, node_is, raised_is, rate_is, square_is, untrue}
 use Rattle.sgp4_drag.proofs.mean.secular.Goals as goal
 
@@ -65,3 +68,24 @@ pub returns-clause-covers : goal.returns-clause-covers
 returns-clause-covers g c h pi x k m consts t is_pi mean =
     let held = returns-clause-held g c h pi x k m _ nothing (covered_consts _ _ _ _ _ consts h) (covered t) is_pi mean in
     record { am = held.am.covers; em = held.em.covers; ml = held.ml.covers; wm = held.wm.covers; om = held.om.covers }
+
+pub returns-clause-exists : goal.returns-clause-exists
+returns-clause-exists g c h pi x k consts t is_pi =
+    let found = mean_elements_exist k pi (unit_minutes 1 *ℚ x) is_pi in
+    let s = found.0 in
+    let mean = found.1.1 in
+    let held = covered_consts _ _ g.E.Enc.tells _ k consts h in
+    let law = g.met.E.Enc.contained in
+    let angles = mean.angles in
+    let factors = mean.factors in
+    let elements = mean.elements in
+    let mf = held_at (rate_is k.m0 k.mdot x ∙ sym angles.mf_is) (c.grown-mf.ensures h _ _ _ _ _ _ held.m0 held.mdot (covered t)) in
+    let cosine = (turn_held c.sincos-cosine.ensures.covers c.sincos-cosine.ensures.narrow is_pi angles.mf_pair mf).1 in
+    let drag = c.drag_correction-g.ensures h _ _ _ _ _ _ _ _ _ _ _ _ held.omgcof held.xmcof held.eta held.delmo cosine (covered t) in
+    let correction = held_at (correction_is k.omgcof k.xmcof k.eta k.delmo s.of_mf.cosine x ∙ sym angles.g_is) drag in
+    let mm = held_at (sym angles.mm_is) (plus_held law c.plus-mm.ensures.covers c.plus-mm.ensures.narrow mf correction) in
+    let sine = (turn_held c.sincos-sine.ensures.covers c.sincos-sine.ensures.narrow is_pi factors.mm_pair mm).0 in
+    let loss = ap (λ z. k.e -ℚ z) (decay_is k.bstar k.c4 k.c5 k.sin_m0 s.of_mm.sine x ∙ sym factors.tempe_is) in
+    let ecc = held_at (loss ∙ sym elements.ecc_is) (c.decayed-ecc.ensures h _ _ _ _ _ _ _ _ _ _ _ _ _ _ held.e held.bstar held.c4 held.c5 held.sin_m0 sine (covered t)) in
+    let inside = rw c.bounds.ensures at (c.is_guarded.ensures.0 (grind (arith, c.if-not-is_guarded.false))) in
+    (found.1.0, record { secular = s; unguarded = mean; guarded = held_guarded _ s.ecc inside (law _ h s.ecc ecc.covers) })
