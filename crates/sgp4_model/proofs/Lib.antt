@@ -36,3 +36,4 @@ mod Crossing
 pub mod RootExists
 pub mod RootLipschitz
 pub mod MotionExists
+pub mod KeplerExists

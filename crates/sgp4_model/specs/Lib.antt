@@ -15,6 +15,7 @@ pub mod EpochAngles
 pub mod EpochTime
 pub mod HigherDrag
 pub mod Kepler
+pub mod KeplerLaws
 pub mod MeanElements
 pub mod MeanMotion
 pub mod MotionLaws
