@@ -37,3 +37,7 @@ pub mod RootExists
 pub mod RootLipschitz
 pub mod MotionExists
 pub mod KeplerExists
+pub mod MeanExists
+mod VectorBounds
+mod PositionLines
+pub mod PositionExists

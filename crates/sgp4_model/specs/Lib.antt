@@ -28,6 +28,7 @@ pub mod Records
 pub mod Root
 pub mod Sidereal
 pub mod RootLaws
+pub mod SolutionLaws
 pub mod Slope
 pub mod Sun
 pub mod Time

@@ -7,6 +7,7 @@ pub mod laws;
 pub mod motion_laws;
 pub mod order_laws;
 pub mod root_laws;
+pub mod solution_laws;
 pub mod span;
 
 pub use span::{Mark, Span};
