@@ -36,3 +36,8 @@ mod Crossing
 pub mod RootExists
 pub mod RootLipschitz
 pub mod MotionExists
+pub mod KeplerExists
+pub mod MeanExists
+mod VectorBounds
+mod PositionLines
+pub mod PositionExists

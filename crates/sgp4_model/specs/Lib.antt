@@ -15,6 +15,7 @@ pub mod EpochAngles
 pub mod EpochTime
 pub mod HigherDrag
 pub mod Kepler
+pub mod KeplerLaws
 pub mod MeanElements
 pub mod MeanMotion
 pub mod MotionLaws
@@ -27,6 +28,7 @@ pub mod Records
 pub mod Root
 pub mod Sidereal
 pub mod RootLaws
+pub mod SolutionLaws
 pub mod Slope
 pub mod Sun
 pub mod Time

@@ -2,10 +2,12 @@
 #![tactic(auto)]
 
 pub mod certified_laws;
+pub mod kepler_laws;
 pub mod laws;
 pub mod motion_laws;
 pub mod order_laws;
 pub mod root_laws;
+pub mod solution_laws;
 pub mod span;
 
 pub use span::{Mark, Span};
