@@ -1,6 +1,8 @@
 mod BoundLemmas
 mod CoefficientLemmas
+mod ConstantsExist
 mod CosineLemmas
+mod DensityExists
 mod DensityLemmas
 mod DragClaimLemmas
 mod DragLemmas
@@ -12,4 +14,5 @@ mod RateLemmas
 mod SeriesLemmas
 mod SizeLemmas
 mod TakenNumerals
+mod TermsExist
 mod WeightLemmas

@@ -1,3 +1,4 @@
+pub mod ConstantsExist
 pub mod Gathered
 pub mod HeldCoefficients
 pub mod HeldDensity

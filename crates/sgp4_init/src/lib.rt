@@ -9,6 +9,7 @@ mod epoch;
 mod gathered;
 mod given;
 mod initial;
+mod laws;
 mod numbers;
 mod rates;
 mod series;
@@ -16,3 +17,4 @@ mod size;
 mod terms;
 
 pub use initial::prepare;
+pub use laws::constants_exist;
