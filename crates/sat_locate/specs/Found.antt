@@ -48,8 +48,9 @@ IsWellNamed (unplaced name) = IsName name
 abbrev pub IsInEdge : EdgeRecord → ℚ → Type 0
 IsInEdge edge x = IsBetween edge.low edge.high x
 
--- each coordinate of each position of the set at an instant lies between its bounds
+-- the set has a position at the instant, and each coordinate of each position lies between its bounds
 pub record IsInside (set : ElementsRecord) (at : ℤ) (x y z : EdgeRecord) : Type 0 where
+  pub exists : (r : Vector) × IsPositionAt (record_of_elements set) (instant_of_nanos at) r
   pub x_between : (r : Vector) → IsPositionAt (record_of_elements set) (instant_of_nanos at) r → IsInEdge x r.x
   pub y_between : (r : Vector) → IsPositionAt (record_of_elements set) (instant_of_nanos at) r → IsInEdge y r.y
   pub z_between : (r : Vector) → IsPositionAt (record_of_elements set) (instant_of_nanos at) r → IsInEdge z r.z
@@ -83,7 +84,7 @@ IsFoundFor set name at (inside given x y z) = (given ≡ name) × IsPlacedAt at 
 IsFoundFor set name at (unplaced given) = (given ≡ name) × IsUnplacedAt at set
 
 -- What was found of the satellite with a number at an instant: there is none; its set may be refused, for this fault; it may
--- be accepted, and each position of it lies between the bounds; or it may be accepted, and no bounds are known. So it is
+-- be accepted, a position exists and each lies between the bounds; or it may be accepted, and no bounds are known. So it is
 -- refused as far if and only if the instant is more than seven days from the epoch and the set has no other fault.
 abbrev pub IsFoundOf : List Entry → ℕ → ℤ → FoundRecord → Type 0
 IsFoundOf entries number at missing = has_number number entries ≡ false

@@ -1,6 +1,6 @@
 mod BoundLemmas
 mod CoefficientLemmas
-mod ConstantsExist
+pub mod ConstantsExist
 mod CosineLemmas
 mod DensityExists
 mod DensityLemmas

@@ -1,4 +1,4 @@
-use Rattle.std.proofs.Common.{refl}
+use Rattle.std.proofs.Common.{inl, refl}
 use Rattle.std.proofs.lemmas.Bool.{false≢true}
 use Rattle.sat_locate.proofs.answer.found_of.Goals as goal
 
@@ -13,6 +13,7 @@ returns-in-Some-clause-found c =
           not_far = λ far. false≢true (c.if-is_far_at.ensures.1 far);
         };
         bounds = record {
+          exists = rw c.in-Ok.ensures.made at c.in-Some.ensures.exists (λ away. false≢true (c.if-is_far_at.ensures.1 (inl away)));
           x_between = λ r p. c.edge_of.ensures.holds r.x (held r p).x;
           y_between = λ r p. c.edge_of-in-Some.ensures.holds r.y (held r p).y;
           z_between = λ r p. c.edge_of-in-Some-2.ensures.holds r.z (held r p).z;

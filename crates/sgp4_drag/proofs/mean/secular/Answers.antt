@@ -3,7 +3,7 @@ use Rattle.exact.specs.Rational.{◌+ℚ◌, ◌-ℚ◌, ◌*ℚ◌}
 use Rattle.fixed_iv.specs.Reach.{nothing}
 use Rattle.fixed_iv.proofs.Held.{covered, held_at, minus_held, plus_held, times_held, turn_held}
 use Rattle.sgp4_shape.proofs.CoveredConsts.{covered_consts}
-use Rattle.sgp4_drag.proofs.Draft.{mean_elements_exist}
+use Rattle.sgp4_model.proofs.MeanExists.{mean_elements_exist}
 use Rattle.sgp4_shape.specs.Covering.{unit_minutes}
 use Rattle.sgp4_drag.proofs.GuardLemmas.{held_guarded}
 use Rattle.sgp4_drag.proofs.SecularLemmas.{correction_is, decay_is, factor_is, longitude_is, node_is, raised_is, rate_is, square_is, untrue}

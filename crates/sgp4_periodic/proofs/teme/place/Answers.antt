@@ -1,7 +1,7 @@
 use Rattle.std.proofs.Common.{arith, inl, inr, refl}
 use Rattle.fixed_iv.proofs.Held.{covered}
 use Rattle.sgp4_shape.proofs.CoveredConsts.{covered_consts}
-use Rattle.sgp4_periodic.proofs.Draft.{position_exists}
+use Rattle.sgp4_model.proofs.PositionExists.{position_exists}
 use Rattle.sgp4_periodic.proofs.ExistLemmas.{before_root, distance_guarded, is_ellipse, rectum_positive, vector_short}
 use Rattle.sgp4_periodic.proofs.PlaceLemmas.{covered_mean, ellipse_of_position, untrue}
 use Rattle.sgp4_periodic.proofs.teme.place.Goals as goal
