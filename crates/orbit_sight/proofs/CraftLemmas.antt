@@ -22,7 +22,7 @@ use Rattle.sgp4_periodic.specs.Unplaced.{IsUnplaced}
 use Rattle.sgp4_shape.specs.Covering.{CoversConsts, CoversMean, unit_minutes}
 use Rattle.sgp4_shape.specs.declared.consts.Consts.{Consts}
 use Rattle.sgp4_shape.specs.declared.mean.Mean.{Mean}
-use Rattle.orbit_sight.specs.Craft.{HoldsVector, IsBoundedVector, IsCraft, IsUnknownAt, plain_covers, plain_extent}
+use Rattle.orbit_sight.specs.Craft.{HoldsVector, IsBoundedVector, IsCraft, plain_covers}
 use Rattle.orbit_sight.specs.Moment.{units_from}
 use Rattle.orbit_sight.proofs.MomentLemmas.{minutes_are}
 

@@ -1,5 +1,10 @@
 pub mod CellLemmas
 mod CraftLemmas
 pub mod DayLemmas
-mod ExistLemmas
+mod DistanceLemmas
+mod FoundLemmas
+mod GuardLemmas
 mod MomentLemmas
+mod OrbitLemmas
+mod SolutionLemmas
+mod WidthLemmas

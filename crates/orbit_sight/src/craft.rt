@@ -32,7 +32,7 @@ impl Model for Craft {
 
 impl Craft {
     ghost use Rattle.elements.specs.Elements.{record_of_elements};
-    ghost use Rattle.orbit_sight.specs.Craft.{HoldsVector, IsBoundedVector, IsUnknownAt};
+    ghost use Rattle.orbit_sight.specs.Craft.{HoldsVector, IsBoundedVector, IsNarrowVector};
     ghost use Rattle.sgp4_model.specs.PositionAt.{IsPositionAt};
     ghost use Rattle.sgp4_model.specs.Time.{instant_of_nanos};
     ghost use Rattle.sgp4_model.specs.Vector.{Vector};
@@ -52,12 +52,13 @@ impl Craft {
     }
 
     /// Bounds of the position at an instant, in Earth radii, in the frame of the true equator and mean equinox (TEME). None
-    /// where the enclosures are too wide to certify that there is a position, or have no bounds.
+    /// only where the instant is more than seven days from the epoch.
     pub fn bounds_at(&self, at: Instant) -> Option<Vec3<Iv>>
         ensures holds { IfSome result (λ v. (r : Vector) → IsPositionAt (record_of_elements self.now) (instant_of_nanos at) r → HoldsVector v r) }
         ensures bounded { IfSome result IsBoundedVector }
-        ensures exists { IfSome result (λ _. (¬ IsAway (record_of_elements self.now) at) → (r : Vector) × IsPositionAt (record_of_elements self.now) (instant_of_nanos at) r) }
-        ensures none { IfNone result (IsUnknownAt self.now at) }
+        ensures narrow { IfSome result (λ v. (¬ IsAway (record_of_elements self.now) at) → IsNarrowVector 1410000000 v) }
+        ensures exists { (¬ IsAway (record_of_elements self.now) at) → (r : Vector) × IsPositionAt (record_of_elements self.now) (instant_of_nanos at) r }
+        ensures none { IfNone result (IsAway (record_of_elements self.now) at) }
     {
         let time = Plain {
             iv: time_from(self.set.epoch(), at),

@@ -1,12 +1,15 @@
 -- Whole millimetres next to the ends of an interval are bounds of the numbers that it holds.
-use Rattle.std.proofs.Common.{[], ◌∷◌, ℤ, pos, ◌*ℤ◌, ◌≤ℤ◌}
+use Rattle.std.proofs.Common.{◌≡◌, arith, [], ◌∷◌, ◌≤◌, ℕ, ℤ, pos, ◌+ℤ◌, ◌-ℤ◌, ◌*ℤ◌, ◌≤ℤ◌, ◌<ℤ◌}
+use Rattle.std.proofs.lemmas.Int.{ints}
 use Rattle.exact.specs.Rational.{ℚ, of_int, ratio, ◌*ℚ◌, ◌≤ℚ◌}
 use Rattle.exact.proofs.RationalRing.{reads}
 use Rattle.exact.proofs.Order.{gap, known, le_by, ◌⊕◌, ◌⊗◌}
 use Rattle.exact.proofs.Integers.{of_int_is, of_int_le, of_int_mul}
 use Rattle.fixed_iv.specs.Ends.{in_units}
+use Rattle.fixed_iv.specs.Extent.{width_of}
 use Rattle.fixed_iv.specs.Holds.{Holds, IsBounded}
 use Rattle.fixed_iv.specs.declared.iv.Iv.{Iv}
+use Rattle.fixed_iv.proofs.OuterLemmas.{width_is}
 use Rattle.sat_locate.specs.Edge.{IsBetween, in_millimetres}
 
 scaled_le : (a b : ℤ) (m n : ℤ) → (a *ℤ m) ≤ℤ (b *ℤ n) → of_int a *ℚ ratio m 1 ≤ℚ of_int b *ℚ ratio n 1
@@ -22,3 +25,11 @@ high_end x high units h k =
 
 pub between_edges : {v : Iv} {low high : ℤ} (x : ℚ) → IsBounded v → (low *ℤ pos 281474976710656) ≤ℤ (v.lo *ℤ pos 6378135000) → (v.hi *ℤ pos 6378135000) ≤ℤ (high *ℤ pos 281474976710656) → Holds v x → IsBetween low high x
 between_edges {v} {low} {high} x b l h held = record { low_end = low_end x low v.lo l (held.low b.low); high_end = high_end x high v.hi h (held.high b.high) }
+
+-- 1,410,000,000 units of 2^-48 Earth radii are less than 31,951 millimetres
+pub narrow_edges : (v : Iv) (low high : ℤ) → width_of v ≤ 1410000000 → (v.lo *ℤ pos 6378135000) <ℤ ((low +ℤ pos 1) *ℤ pos 281474976710656) → ((high -ℤ pos 1) *ℤ pos 281474976710656) <ℤ (v.hi *ℤ pos 6378135000) →
+    high ≤ℤ (low +ℤ pos 32000)
+narrow_edges v low high w l h = of_ends (width_of v) v.lo v.hi (width_is v) w l h
+  where
+    of_ends : (n : ℕ) (lo hi : ℤ) → pos n ≡ hi -ℤ lo → n ≤ 1410000000 → (lo *ℤ pos 6378135000) <ℤ ((low +ℤ pos 1) *ℤ pos 281474976710656) → ((high -ℤ pos 1) *ℤ pos 281474976710656) <ℤ (hi *ℤ pos 6378135000) → high ≤ℤ (low +ℤ pos 32000)
+    of_ends n lo hi e w l h = omega (arith, ints, e, w, l, h)

@@ -1,10 +1,9 @@
 -- What is found of a satellite of a catalogue at an instant, and what that says of its position.
-use Rattle.std.specs.Prelude.{◌≡◌, ℕ, ℤ, Bool, true, false, List, Some, ⊤}
+use Rattle.std.specs.Prelude.{◌≡◌, ◌≤ℤ◌, ◌+ℤ◌, ℕ, ℤ, pos, Bool, true, false, List, Some, ⊤}
 use Rattle.exact.specs.Rational.{ℚ}
 use Rattle.catalogue.specs.Entries.{IsName, entry_with, has_number}
 use Rattle.catalogue.specs.declared.entry.Entry.{Entry}
 use Rattle.elements.specs.Elements.{ElementsRecord, record_of_elements}
-use Rattle.orbit_sight.specs.Craft.{IsUnknownAt}
 use Rattle.pass_text.specs.LocateLayout.{EdgeRecord, FoundRecord, LocateRecord, missing, refused, inside, unplaced}
 use Rattle.sgp4_model.specs.PositionAt.{IsPositionAt}
 use Rattle.sgp4_model.specs.Time.{instant_of_nanos}
@@ -48,12 +47,19 @@ IsWellNamed (unplaced name) = IsName name
 abbrev pub IsInEdge : EdgeRecord → ℚ → Type 0
 IsInEdge edge x = IsBetween edge.low edge.high x
 
--- the set has a position at the instant, and each coordinate of each position lies between its bounds
+-- bounds of a coordinate are at most 32 metres apart
+abbrev pub IsNarrowEdge : EdgeRecord → Type 0
+IsNarrowEdge edge = edge.high ≤ℤ (edge.low +ℤ pos 32000)
+
+-- the set has a position at the instant, and each coordinate of each position lies between its bounds, which are near each other
 pub record IsInside (set : ElementsRecord) (at : ℤ) (x y z : EdgeRecord) : Type 0 where
   pub exists : (r : Vector) × IsPositionAt (record_of_elements set) (instant_of_nanos at) r
   pub x_between : (r : Vector) → IsPositionAt (record_of_elements set) (instant_of_nanos at) r → IsInEdge x r.x
   pub y_between : (r : Vector) → IsPositionAt (record_of_elements set) (instant_of_nanos at) r → IsInEdge y r.y
   pub z_between : (r : Vector) → IsPositionAt (record_of_elements set) (instant_of_nanos at) r → IsInEdge z r.z
+  pub x_narrow : IsNarrowEdge x
+  pub y_narrow : IsNarrowEdge y
+  pub z_narrow : IsNarrowEdge z
 
 -- the satellite with the number has this name, and its element set is such
 pub record IsOf (entries : List Entry) (number : ℕ) (name : List ℕ) (holds : ElementsRecord → Type 0) : Type 0 where
@@ -71,26 +77,21 @@ pub record IsPlacedAt (at : ℤ) (x y z : EdgeRecord) (set : ElementsRecord) : T
   pub accepted : MayAccept (record_of_elements set) at at
   pub bounds : IsInside set at x y z
 
--- the set may be accepted at the instant, and bounds of its position are not known
-pub record IsUnplacedAt (at : ℤ) (set : ElementsRecord) : Type 0 where
-  pub accepted : MayAccept (record_of_elements set) at at
-  pub unknown : IsUnknownAt set at
-
--- what was found of a set with a name: not that it is missing
+-- what was found of a set with a name: not that it is missing, nor that no bounds of its position are known
 abbrev pub IsFoundFor : ElementsRecord → List ℕ → ℤ → FoundRecord → Type 0
 IsFoundFor set name at missing = ⊥
 IsFoundFor set name at (refused fault given) = (given ≡ name) × IsRefusedAt at fault set
 IsFoundFor set name at (inside given x y z) = (given ≡ name) × IsPlacedAt at x y z set
-IsFoundFor set name at (unplaced given) = (given ≡ name) × IsUnplacedAt at set
+IsFoundFor set name at (unplaced given) = ⊥
 
--- What was found of the satellite with a number at an instant: there is none; its set may be refused, for this fault; it may
--- be accepted, a position exists and each lies between the bounds; or it may be accepted, and no bounds are known. So it is
--- refused as far if and only if the instant is more than seven days from the epoch and the set has no other fault.
+-- What was found of the satellite with a number at an instant: there is none; its set may be refused, for this fault; or it may
+-- be accepted, a position exists and each lies between the bounds. So it is refused as far if and only if the instant is more
+-- than seven days from the epoch and the set has no other fault; and that no bounds are known never comes.
 abbrev pub IsFoundOf : List Entry → ℕ → ℤ → FoundRecord → Type 0
 IsFoundOf entries number at missing = has_number number entries ≡ false
 IsFoundOf entries number at (refused fault name) = IsOf entries number name (IsRefusedAt at fault)
 IsFoundOf entries number at (inside name x y z) = IsOf entries number name (IsPlacedAt at x y z)
-IsFoundOf entries number at (unplaced name) = IsOf entries number name (IsUnplacedAt at)
+IsFoundOf entries number at (unplaced name) = ⊥
 
 -- the answer is for this number and this instant
 pub record IsAnswerFor (entries : List Entry) (number : ℕ) (at : ℤ) (answer : LocateRecord) : Type 0 where

@@ -1,4 +1,4 @@
 mod EquationLemmas
 mod ExistLemmas
 mod GuardLemmas
-mod PlaceLemmas
+pub mod PlaceLemmas

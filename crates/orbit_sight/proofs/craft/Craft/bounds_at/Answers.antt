@@ -1,6 +1,14 @@
-use Rattle.std.proofs.Common.{refl, inl, inr}
+use Rattle.std.proofs.Common.{refl, ◌-ℤ◌}
+use Rattle.enc_plain.proofs.PlainHeld.{middle}
+use Rattle.sgp4_init.specs.ReachConsts.{reach_consts}
+use Rattle.sgp4_model.specs.Angle.{least_pi}
+use Rattle.orbit_sight.specs.Moment.{units_from}
 use Rattle.orbit_sight.proofs.CraftLemmas.{if_kept, if_not_kept, position_held}
-use Rattle.orbit_sight.proofs.ExistLemmas.{position_at}
+use Rattle.orbit_sight.proofs.DayLemmas.{some_pi}
+use Rattle.orbit_sight.proofs.FoundLemmas.{away_unless, mean_of, not_out_of_guard, not_unplaced, position_at, position_of}
+use Rattle.orbit_sight.proofs.OrbitLemmas.{week_inside}
+use Rattle.orbit_sight.proofs.SolutionLemmas.{solution}
+use Rattle.orbit_sight.proofs.WidthLemmas.{bounded, mean_reach, mean_within, most_vector, narrow, time_held, week}
 use Rattle.orbit_sight.proofs.craft.Craft.bounds_at.Goals as goal
 
 pub returns-in-Some-place-clause-holds : goal.returns-in-Some-place-clause-holds
@@ -11,43 +19,66 @@ returns-in-Some-place-clause-holds c =
     (position_held c.self.inside.set c.args.at c.self.inside.consts (record { iv = c.time_from.result }) c.in-Some.mean c.in-Some-place.position r c.self.invariant
     (λ h. rw c.epoch.ensures.value at c.time_from.ensures.holds _ refl) c.in-Some.ensures.covers c.in-Some-place.ensures.covers p)))
 
+pub returns-in-Some-place-clause-narrow : goal.returns-in-Some-place-clause-narrow
+returns-in-Some-place-clause-narrow c =
+    let set = c.self.inside.set in
+    let consts = c.self.inside.consts in
+    rw (← c.self.view_is)
+    (if_kept (λ v. _) c.bounded.result c.bounds_of.result c.bounded.ensures.some
+    (λ near.
+    let known_at = solution set c.args.at consts c.epoch.ensures.elements c.self.invariant near in
+    let time = time_held set c.args.at (record { iv = c.time_from.result }) (rw c.epoch.ensures.value at c.time_from.ensures) (week_inside (c.args.at -ℤ set.epoch) near) middle in
+    let mean = mean_within (c.in-Some.ensures.held middle least_pi (units_from set.epoch c.args.at) known_at.constants known_at.mean reach_consts week known_at.held time some_pi (mean_of set c.args.at consts known_at)) in
+    rw c.bounds_of.ensures
+    (narrow c.in-Some-place.position middle known_at.position
+    (c.in-Some-place.ensures.held middle least_pi known_at.root known_at.constants known_at.mean known_at.position reach_consts mean_reach most_vector some_pi known_at.held mean (position_of set c.args.at consts known_at) known_at.sized))))
+
 pub returns-in-Some-place-clause-exists : goal.returns-in-Some-place-clause-exists
 returns-in-Some-place-clause-exists c =
     rw (← c.self.view_is)
-    (if_kept (λ _. _) c.bounded.result c.bounds_of.result c.bounded.ensures.some
-    (position_at c.self.inside.set c.args.at c.self.inside.consts (record { iv = c.time_from.result }) c.in-Some.mean c.epoch.ensures.elements c.self.invariant
-    (λ h. rw c.epoch.ensures.value at c.time_from.ensures.holds _ refl) c.in-Some.ensures.covers c.in-Some.ensures.exists c.in-Some-place.ensures.exists))
+    (λ near. position_at c.self.inside.set c.args.at c.self.inside.consts (solution c.self.inside.set c.args.at c.self.inside.consts c.epoch.ensures.elements c.self.invariant near))
 
 pub returns-in-Some-place-clause-none : goal.returns-in-Some-place-clause-none
 returns-in-Some-place-clause-none c =
+    let set = c.self.inside.set in
+    let consts = c.self.inside.consts in
     rw (← c.self.view_is)
     (if_not_kept _ c.bounded.result c.bounds_of.result c.bounded.ensures.none
-    (λ u. record {
-      consts = c.self.inside.consts;
-      held = c.self.invariant.held;
-      time = record { iv = c.time_from.result };
-      time_is = rw c.epoch.ensures.value at c.time_from.ensures;
-      cause = inr (record { mean = c.in-Some.mean; held = c.in-Some.ensures.held; cause = inr (record { position = c.in-Some-place.position; held = c.in-Some-place.ensures.held; unbounded = rw c.bounds_of.ensures at u }) });
-    }))
+    (λ u. away_unless (c.args.at -ℤ set.epoch) (λ near.
+    let known_at = solution set c.args.at consts c.epoch.ensures.elements c.self.invariant near in
+    let time = time_held set c.args.at (record { iv = c.time_from.result }) (rw c.epoch.ensures.value at c.time_from.ensures) (week_inside (c.args.at -ℤ set.epoch) near) middle in
+    let mean = mean_within (c.in-Some.ensures.held middle least_pi (units_from set.epoch c.args.at) known_at.constants known_at.mean reach_consts week known_at.held time some_pi (mean_of set c.args.at consts known_at)) in
+    (rw c.bounds_of.ensures at u)
+    (bounded c.in-Some-place.position middle known_at.position
+    (c.in-Some-place.ensures.held middle least_pi known_at.root known_at.constants known_at.mean known_at.position reach_consts mean_reach most_vector some_pi known_at.held mean (position_of set c.args.at consts known_at) known_at.sized)))))
+
+pub returns-in-None-place-clause-exists : goal.returns-in-None-place-clause-exists
+returns-in-None-place-clause-exists c =
+    rw (← c.self.view_is)
+    (λ near. position_at c.self.inside.set c.args.at c.self.inside.consts (solution c.self.inside.set c.args.at c.self.inside.consts c.epoch.ensures.elements c.self.invariant near))
 
 pub returns-in-None-place-clause-none : goal.returns-in-None-place-clause-none
 returns-in-None-place-clause-none c =
+    let set = c.self.inside.set in
+    let consts = c.self.inside.consts in
     rw (← c.self.view_is)
-    (record {
-      consts = c.self.inside.consts;
-      held = c.self.invariant.held;
-      time = record { iv = c.time_from.result };
-      time_is = rw c.epoch.ensures.value at c.time_from.ensures;
-      cause = inr (record { mean = c.in-Some.mean; held = c.in-Some.ensures.held; cause = inl c.in-None-place.ensures.none });
-    })
+    (away_unless (c.args.at -ℤ set.epoch) (λ near.
+    let known_at = solution set c.args.at consts c.epoch.ensures.elements c.self.invariant near in
+    let time = time_held set c.args.at (record { iv = c.time_from.result }) (rw c.epoch.ensures.value at c.time_from.ensures) (week_inside (c.args.at -ℤ set.epoch) near) middle in
+    let mean = mean_within (c.in-Some.ensures.held middle least_pi (units_from set.epoch c.args.at) known_at.constants known_at.mean reach_consts week known_at.held time some_pi (mean_of set c.args.at consts known_at)) in
+    not_unplaced set c.args.at consts known_at c.in-Some.mean mean c.in-None-place.ensures.none))
+
+pub returns-in-None-clause-exists : goal.returns-in-None-clause-exists
+returns-in-None-clause-exists c =
+    rw (← c.self.view_is)
+    (λ near. position_at c.self.inside.set c.args.at c.self.inside.consts (solution c.self.inside.set c.args.at c.self.inside.consts c.epoch.ensures.elements c.self.invariant near))
 
 pub returns-in-None-clause-none : goal.returns-in-None-clause-none
 returns-in-None-clause-none c =
+    let set = c.self.inside.set in
+    let consts = c.self.inside.consts in
     rw (← c.self.view_is)
-    (record {
-      consts = c.self.inside.consts;
-      held = c.self.invariant.held;
-      time = record { iv = c.time_from.result };
-      time_is = rw c.epoch.ensures.value at c.time_from.ensures;
-      cause = inl c.in-None.ensures.none;
-    })
+    (away_unless (c.args.at -ℤ set.epoch) (λ near.
+    let known_at = solution set c.args.at consts c.epoch.ensures.elements c.self.invariant near in
+    let time = time_held set c.args.at (record { iv = c.time_from.result }) (rw c.epoch.ensures.value at c.time_from.ensures) (week_inside (c.args.at -ℤ set.epoch) near) middle in
+    not_out_of_guard set c.args.at consts known_at (record { iv = c.time_from.result }) time c.in-None.ensures.none))

@@ -1,0 +1,80 @@
+-- Within seven days of the epoch bounds are found: no guard fails.
+use Rattle.std.proofs.Common.{arith, inl, inr, subst, true, [], ◌∷◌, ◌<◌, ◌*◌, ◌^◌, ℤ, pos, unsigned_abs}
+use Rattle.std.proofs.lemmas.Int.{ints, by_lt_z}
+use Rattle.exact.specs.Rational.{◌*ℚ◌}
+use Rattle.exact.proofs.Order.{gap, known, le_by, ◌⊕◌}
+use Rattle.exact.proofs.RationalRing.{reads}
+use Rattle.elements.specs.Elements.{ElementsRecord, record_of_elements}
+use Rattle.enc_plain.specs.declared.plain.Plain.{Plain}
+use Rattle.enc_plain.proofs.PlainHeld.{middle}
+use Rattle.fixed_iv.specs.Reach.{IsHeld}
+use Rattle.sgp4_drag.specs.Secular.{IsOutOfGuard}
+use Rattle.sgp4_init.specs.ReachConsts.{reach_consts}
+use Rattle.sgp4_model.specs.Angle.{least_pi}
+use Rattle.sgp4_model.specs.MeanElements.{IsMean}
+use Rattle.sgp4_model.specs.Position.{IsPosition}
+use Rattle.sgp4_model.specs.PositionAt.{IsPositionAt}
+use Rattle.sgp4_model.specs.Time.{instant_of_nanos}
+use Rattle.sgp4_model.specs.Vector.{Vector}
+use Rattle.sgp4_shape.specs.Covering.{unit_minutes}
+use Rattle.sgp4_shape.specs.HeldMean.{IsHeldMean}
+use Rattle.sgp4_shape.specs.declared.consts.Consts.{Consts}
+use Rattle.sgp4_shape.specs.declared.mean.Mean.{Mean}
+use Rattle.sgp4_periodic.specs.Unplaced.{IsUnplaced}
+use Rattle.sgp4_periodic.proofs.PlaceLemmas.{ellipse_of_position}
+use Rattle.orbit_sight.specs.Craft.{plain_covers, plain_extent}
+use Rattle.orbit_sight.specs.Moment.{units_from}
+use Rattle.orbit_sight.proofs.DayLemmas.{some_pi}
+use Rattle.orbit_sight.proofs.GuardLemmas.{distance_certified, inside_guard, rectum_certified, vector_certified}
+use Rattle.orbit_sight.proofs.MomentLemmas.{minutes_are}
+use Rattle.orbit_sight.proofs.SolutionLemmas.{Solution}
+use Rattle.orbit_sight.proofs.WidthLemmas.{mean_reach, most_vector, week}
+
+-- what is not near is away
+pub away_unless : (z : ℤ) → ((¬ (604800 * 10 ^ 9 < unsigned_abs z)) → ⊥) → 604800 * 10 ^ 9 < unsigned_abs z
+away_unless z f = by_lt_z (pos 604800000000000) (pos (unsigned_abs z)) (λ p. omega (arith, ints, p)) (λ p. absurd (f (λ q. omega (arith, ints, p, q))))
+
+module _ (set : ElementsRecord) (at : ℤ) (consts : Consts Plain) (known_at : Solution set at consts) where
+  open known_at use {constants, mean, periodic, secular}
+
+  -- the guards hold of the solution
+  pub mean_of : IsMean constants least_pi (unit_minutes 1 *ℚ units_from set.epoch at) mean
+  mean_of = record { secular = secular; unguarded = known_at.mean_is; guarded = known_at.eccentricity }
+
+  abbrev pub position_of : IsPosition constants mean least_pi known_at.root known_at.position
+  position_of = record {
+    periodic = periodic;
+    unguarded = known_at.position_is;
+    guarded = le_by (periodic.mrt ∷ []) (gap known_at.far ⊕ known 1 100) (search reads depth 90) tt;
+  }
+
+  pub position_at : (r : Vector) × IsPositionAt (record_of_elements set) (instant_of_nanos at) r
+  position_at = (
+    known_at.position,
+    record {
+      pi = least_pi;
+      pi_is = some_pi;
+      constants = constants;
+      constants_are = known_at.constants_are;
+      mean = mean;
+      mean_is = subst (λ y. IsMean constants least_pi y mean) (minutes_are (record_of_elements set) at) mean_of;
+      root = known_at.root;
+      position_is = position_of;
+    },
+  )
+
+  -- the eccentricity is inside its guard
+  pub not_out_of_guard : (time : Plain) → IsHeld plain_covers plain_extent true time middle (units_from set.epoch at) week → IsOutOfGuard plain_covers plain_extent true consts time → ⊥
+  not_out_of_guard time held u =
+      u.outside (inside_guard u.ecc secular.ecc (u.held middle least_pi (units_from set.epoch at) constants secular mean reach_consts week some_pi known_at.held held known_at.mean_is))
+
+  -- Kepler's equation, the semilatus rectum and the distance are certified
+  pub not_unplaced : (m : Mean Plain) → IsHeldMean plain_covers plain_extent true m middle mean mean_reach → IsUnplaced plain_covers plain_extent true consts m → ⊥
+  not_unplaced m held (inl u) =
+      let e = u.held middle least_pi constants mean periodic reach_consts mean_reach some_pi known_at.held held (ellipse_of_position known_at.position_is) in
+      elim u.outside [
+        | inl v ↦ vector_certified u.ellipse.ax u.ellipse.ay periodic.ax periodic.ay e.ax e.ay v
+        | inr f ↦ f (rectum_certified u.ellipse.pl periodic.pl e.pl)
+      ]
+  not_unplaced m held (inr u) =
+      u.low (distance_certified u.mrt periodic.mrt (u.held middle least_pi known_at.root constants mean periodic known_at.position reach_consts mean_reach most_vector some_pi known_at.held held known_at.position_is known_at.sized) known_at.far)
