@@ -1,0 +1,84 @@
+-- Daylight at small numbers, and a day solution of each place and instant.
+use Rattle.std.proofs.Common.{refl, pos}
+use Rattle.exact.specs.Rational.{ℚ, ◌+ℚ◌, ◌*ℚ◌, neg_ℚ, at_least_0, ratio}
+use Rattle.sgp4_model.specs.Angle.{Pair, least_pi}
+use Rattle.sgp4_model.specs.Degrees.{IsPairOfDegrees, radians}
+use Rattle.sgp4_model.specs.DaySolution.{local_up}
+use Rattle.sgp4_model.specs.Sidereal.{IsSiderealPair, earth_fixed, sidereal_angle}
+use Rattle.sgp4_model.specs.Sun.{IsSun, days, obliquity, sun_longitude, sun_mean_anomaly}
+use Rattle.sgp4_model.specs.Vector.{Vector, inner_product}
+use Rattle.sgp4_model.proofs.OwnPair.{sine_and_cosine_exist}
+use Rattle.rows_model.specs.Horizon.{DaySolutionExists, HorizonRows}
+use Rattle.rows_model.proofs.ToleranceCases.{pi_rows}
+
+pub horizon_rows : HorizonRows
+unfolding ratio ◌+ℚ◌ ◌*ℚ◌ neg_ℚ at_least_0
+horizon_rows = record {
+  light = record { lt = tt };
+  level_is_not_light = λ h. absurd h.lt;
+  low_is_not_light = λ h. absurd h.lt;
+  night = record { lt = tt };
+  level_is_not_night = λ h. absurd h.lt;
+  high_is_not_night = λ h. absurd h.lt;
+  near_above = record { above = record { le = tt }; below = record { le = tt } };
+  near_below = record { above = record { le = tt }; below = record { le = tt } };
+  far_above = λ h. absurd h.above.le;
+  far_below = λ h. absurd h.below.le;
+}
+
+-- a pair of an angle, by the lowest pi
+pair_of : (x : ℚ) → (p : Pair) × IsPairOfDegrees least_pi x p
+pair_of x =
+    let found = sine_and_cosine_exist least_pi (radians least_pi x) pi_rows.low in
+    (record { sine = found.0; cosine = found.1.0 }, found.1.1)
+
+-- a pair of the sidereal angle
+turn_at : (at : ℚ) → (p : Pair) × IsSiderealPair least_pi at p
+turn_at at =
+    let found = sine_and_cosine_exist least_pi (sidereal_angle least_pi at) pi_rows.low in
+    (record { sine = found.0; cosine = found.1.0 }, found.1.1)
+
+-- a direction of the Sun
+sun_at : (at : ℚ) → (sun : Vector) × IsSun least_pi at sun
+sun_at at =
+    let anomaly = pair_of (sun_mean_anomaly (days at)) in
+    let twice = pair_of (ratio (pos 2) 1 *ℚ sun_mean_anomaly (days at)) in
+    let longitude = pair_of (sun_longitude (days at) anomaly.0.sine twice.0.sine) in
+    let tilt = pair_of (obliquity (days at)) in (
+      record { x = longitude.0.cosine; y = tilt.0.cosine *ℚ longitude.0.sine; z = tilt.0.sine *ℚ longitude.0.sine },
+      record {
+        anomaly = anomaly.0;
+        twice_anomaly = twice.0;
+        longitude = longitude.0;
+        tilt = tilt.0;
+        of_anomaly = anomaly.1;
+        of_twice_anomaly = twice.1;
+        of_longitude = longitude.1;
+        of_tilt = tilt.1;
+        x = refl;
+        y = refl;
+        z = refl;
+      },
+    )
+
+pub day_solution_exists : DaySolutionExists
+day_solution_exists lat lon at =
+    let up = pair_of lat in
+    let along = pair_of lon in
+    let turn = turn_at at in
+    let sun = sun_at at in (
+      inner_product (local_up up.0 along.0) (earth_fixed turn.0 sun.0),
+      record {
+        pi = least_pi;
+        of_latitude = up.0;
+        of_longitude = along.0;
+        turn = turn.0;
+        sun = sun.0;
+        is_pi = pi_rows.low;
+        is_latitude = up.1;
+        is_longitude = along.1;
+        is_sidereal = turn.1;
+        is_sun = sun.1;
+        product_is = refl;
+      },
+    )
