@@ -5,7 +5,7 @@ use Rattle.exact.proofs.RationalRing.{ring, reads}
 use Rattle.sgp4_model.specs.Angle.{IsNear, IsReduced, IsSinCos, Pair, least_pi, part, quadrant, reduced, turned}
 use Rattle.sgp4_model.specs.AngleSums.{cosine_sum}
 use Rattle.sgp4_model.proofs.Horner.{sine_zero}
-use Rattle.rows_model.specs.Tolerances.{CubeRootRows, PairRows, PiRows, SquareRootRows}
+use Rattle.rows_model.specs.Tolerances.{CubeRootRows, ModestRows, PairRows, PiRows, SquareRootRows}
 
 pub pi_rows : PiRows
 unfolding ratio ◌+ℚ◌ neg_ℚ at_least_0
@@ -91,4 +91,11 @@ pair_rows = record {
   half = from_quarters least_pi (pos 2) level zero_ℚ (neg_ℚ one_ℚ) (ring (least_pi ∷ []) (search reads depth 90) tt) zero_near one_near no_sign refl;
   quarter_back = from_quarters (neg_ℚ (ratio (pos 1) 2 *ℚ least_pi)) (negsuc 0) level (neg_ℚ one_ℚ) zero_ℚ (ring (least_pi ∷ []) (search reads depth 90) tt) zero_near one_near refl refl;
   at_the_tolerance = from_quarters zero_ℚ (pos 0) (record { sine = part 60; cosine = one_ℚ -ℚ part 60 }) (part 60) (one_ℚ -ℚ part 60) (ring (least_pi ∷ []) (search reads depth 90) tt) part_near less_near refl refl;
+}
+
+pub modest_rows : ModestRows
+unfolding ratio ◌+ℚ◌ neg_ℚ at_least_0
+modest_rows = record {
+  least = record { low = record { le = tt }; high = record { le = tt } };
+  most = record { low = record { le = tt }; high = record { le = tt } };
 }

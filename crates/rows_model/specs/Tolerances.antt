@@ -2,6 +2,7 @@
 use Rattle.std.specs.Prelude.{pos, negsuc, ◌^◌}
 use Rattle.exact.specs.Rational.{◌-ℚ◌, ◌*ℚ◌, neg_ℚ, ratio, zero_ℚ, one_ℚ}
 use Rattle.sgp4_model.specs.Angle.{IsPi, IsSinCos, least_pi, part}
+use Rattle.sgp4_model.specs.PairLaws.{IsModest}
 use Rattle.sgp4_model.specs.Root.{IsSqrt, IsCbrt2}
 
 -- both ends of the bracket, and a tenth of its width past each
@@ -35,3 +36,8 @@ pub record PairRows : Type 0 where
   pub half : IsSinCos least_pi least_pi zero_ℚ (neg_ℚ one_ℚ)
   pub quarter_back : IsSinCos least_pi (neg_ℚ (ratio (pos 1) 2 *ℚ least_pi)) (neg_ℚ one_ℚ) zero_ℚ
   pub at_the_tolerance : IsSinCos least_pi zero_ℚ (part 60) (one_ℚ -ℚ part 60)
+
+-- the angles of which sines are Lipschitz: up to 2^20 to either side
+pub record ModestRows : Type 0 where
+  pub least : IsModest (ratio (negsuc 1048575) 1)
+  pub most : IsModest (ratio (pos 1048576) 1)

@@ -4,7 +4,7 @@
 ghost use Rattle.rows_model.specs.Horizon.{DaySolutionExists, HorizonRows};
 ghost use Rattle.rows_model.specs.Rows.{FullRows, SpanRows, UnresolvedRows};
 ghost use Rattle.rows_model.specs.Tilings.{SmallNeighbours, SmallTilings, SmallTruths};
-ghost use Rattle.rows_model.specs.Tolerances.{CubeRootRows, PairRows, PiRows, SquareRootRows};
+ghost use Rattle.rows_model.specs.Tolerances.{CubeRootRows, ModestRows, PairRows, PiRows, SquareRootRows};
 
 /// Lists that tile and lists that do not.
 pub fn small_tilings()
@@ -57,7 +57,8 @@ pub fn known_roots()
     ensures cubes { CubeRootRows }
 {}
 
-/// Pairs at whole quarter turns, and one at the tolerance.
+/// Pairs at whole quarter turns, and one at the tolerance; angles of which sines are Lipschitz.
 pub fn known_pairs()
-    ensures { PairRows }
+    ensures pairs { PairRows }
+    ensures angles { ModestRows }
 {}
