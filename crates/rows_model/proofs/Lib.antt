@@ -1,1 +1,3 @@
+mod HorizonCases
 mod SmallCases
+mod ToleranceCases

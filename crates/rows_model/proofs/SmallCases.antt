@@ -1,9 +1,12 @@
 -- The small cases, one by one.
-use Rattle.std.proofs.Common.{arith, [], ◌∷◌, refl, pos}
+use Rattle.std.proofs.Common.{arith, ◌≡◌, ◌+◌, List, [], ◌∷◌, length, refl, pos}
 use Rattle.std.proofs.lemmas.List.Elements.{All-nil}
 use Rattle.exact.specs.Rational.{◌+ℚ◌, neg_ℚ, at_least_0, ratio, of_int}
 use Rattle.sgp4_model.specs.Time.{IsWithin}
-use Rattle.sgp4_model.specs.Certified.{IsTrueSpan, IsSoundUpTo}
+use Rattle.sgp4_model.specs.Certified.{Tiles, IsTrueSpan, IsSoundUpTo}
+use Rattle.sgp4_model.specs.declared.span.Mark.{Mark}
+use Rattle.sgp4_model.specs.declared.span.Mark.TheVariants.{Yes, No, Undecided}
+use Rattle.sgp4_model.specs.declared.span.Span.{Span}
 use Rattle.sgp4_model.proofs.CertifiedLemmas.{sound_lists_extend}
 use Rattle.rows_model.specs.SmallTrack.{small_track, yes_span, no_span, undecided_span, right_list}
 use Rattle.rows_model.specs.Tilings.{SmallTruths}
@@ -35,6 +38,20 @@ before_5 : ¬ (IsWithin 5 7 (ratio (pos 1) 1))
 unfolding of_int ratio ◌+ℚ◌ neg_ℚ at_least_0
 before_5 h = absurd h.low.le
 
+-- the place 7/2 lies in the cell from 3 to 5, and not in that from 5 to 7
+inside_5 : IsWithin 3 5 (ratio (pos 7) 2)
+unfolding of_int ratio ◌+ℚ◌ neg_ℚ at_least_0
+inside_5 = record { low = record { le = tt }; high = record { le = tt } }
+
+late_5 : ¬ (IsWithin 5 7 (ratio (pos 7) 2))
+unfolding of_int ratio ◌+ℚ◌ neg_ℚ at_least_0
+late_5 h = absurd h.low.le
+
+-- the place 1 lies in the cell from 0 to 4
+inside_1_of_4 : IsWithin 0 4 (ratio (pos 1) 1)
+unfolding of_int ratio ◌+ℚ◌ neg_ℚ at_least_0
+inside_1_of_4 = record { low = record { le = tt }; high = record { le = tt } }
+
 visible : IsTrueSpan small_track 2 (yes_span 0 3)
 visible = record { yes = λ _ place h. h; no = λ e. absurd (cc); grazes = λ e. absurd (cc); short = λ e. absurd (cc) }
 
@@ -51,6 +68,7 @@ small_truths = record {
   grazing = grazing;
   too_wide = λ h. outside_3 (h.yes refl (ratio (pos 7) 2) inside_4);
   other_mark = λ h. before_3 (h.no refl (ratio (pos 1) 1) inside_3);
+  certain = λ h. late_5 (h.grazes refl (ratio (pos 7) 2) inside_5);
   too_long = λ h. omega (arith, h.short refl);
 }
 
@@ -86,11 +104,34 @@ unresolved_rows = record {
   listed = λ h. cc;
 }
 
+-- no list of one span leads from 0 to 0
+no_empty_span : (list : List Span) → length list + 9 ≡ 10 → ¬ (Tiles list 0)
+no_empty_span [] e t = omega (arith, e)
+no_empty_span (a ∷ []) e t = omega (arith, t.0, t.1, t.2)
+no_empty_span (a ∷ b ∷ rest) e t = omega (arith, e)
+
+-- no span from 0 to 4 is true
+no_true_span : (a : Span) → a.from ≡ 0 → a.to ≡ 4 → ¬ (IsTrueSpan small_track 2 a)
+no_true_span a e f h = of_mark a.mark refl
+  where
+    of_mark : (m : Mark) → a.mark ≡ m → ⊥
+    of_mark Yes k = outside_3 (h.yes k (ratio (pos 7) 2) (rw (e, f) inside_4))
+    of_mark No k = before_3 (h.no k (ratio (pos 1) 1) (rw (e, f) inside_1_of_4))
+    of_mark Undecided k = before_5 (h.grazes k (ratio (pos 1) 1) (rw (e, f) inside_1_of_4))
+
+-- so no list of one span is sound up to 4
+no_sound_list : (list : List Span) → length list + 9 ≡ 10 → ¬ (IsSoundUpTo small_track 2 list 4)
+no_sound_list [] e s = omega (arith, e)
+no_sound_list (a ∷ []) e s = no_true_span a s.tiles.0 s.tiles.2 (s.each 0 a (omega arith))
+no_sound_list (a ∷ b ∷ rest) e s = omega (arith, e)
+
 pub full_rows : FullRows
 full_rows = record {
   right = (record { list = yes_span 0 3 ∷ no_span 3 5 ∷ []; sound = sound_pair; before_the_end = omega arith; no_slot = refl }, refl);
   first = (record { list = []; sound = sound_none; before_the_end = omega arith; no_slot = refl }, refl);
   at_the_end = λ h. omega (arith, h.0.before_the_end);
   overfull = λ h. omega (arith, h.0.no_slot);
+  underfull = λ h. no_empty_span h.0.list h.0.no_slot h.0.sound.tiles;
+  untrue = λ h. no_sound_list h.0.list h.0.no_slot h.0.sound;
   listed = λ h. cc;
 }

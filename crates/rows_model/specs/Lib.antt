@@ -1,3 +1,5 @@
+pub mod Horizon
 pub mod Rows
 pub mod SmallTrack
 pub mod Tilings
+pub mod Tolerances

@@ -27,4 +27,6 @@ pub record FullRows : Type 0 where
   pub first : IsCertified small_track 2 10 10 (full 0) []
   pub at_the_end : ¬ (IsCertified small_track 2 10 7 (full 7) [])
   pub overfull : ¬ (IsCertified small_track 2 10 11 (full 0) [])
+  pub underfull : ¬ (IsCertified small_track 2 10 9 (full 0) [])
+  pub untrue : ¬ (IsCertified small_track 2 10 9 (full 4) [])
   pub listed : ¬ (IsCertified small_track 2 10 8 (full 5) right_list)

@@ -28,4 +28,5 @@ pub record SmallTruths : Type 0 where
   pub grazing : IsTrueSpan small_track 2 (undecided_span 5 7)
   pub too_wide : ¬ (IsTrueSpan small_track 2 (yes_span 0 4))
   pub other_mark : ¬ (IsTrueSpan small_track 2 (no_span 0 3))
+  pub certain : ¬ (IsTrueSpan small_track 2 (undecided_span 3 5))
   pub too_long : ¬ (IsTrueSpan small_track 1 (undecided_span 5 7))

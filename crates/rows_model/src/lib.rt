@@ -1,8 +1,10 @@
-//! The definitions of certified tracks, on small cases.
+//! The definitions of certified tracks, of daylight and of tolerances, on small cases.
 #![tactic(auto)]
 
+ghost use Rattle.rows_model.specs.Horizon.{HorizonRows};
 ghost use Rattle.rows_model.specs.Rows.{FullRows, SpanRows, UnresolvedRows};
 ghost use Rattle.rows_model.specs.Tilings.{SmallNeighbours, SmallTilings, SmallTruths};
+ghost use Rattle.rows_model.specs.Tolerances.{CubeRootRows, ModestRows, PairRows, PiRows, SquareRootRows};
 
 /// Lists that tile and lists that do not.
 pub fn small_tilings()
@@ -32,4 +34,26 @@ pub fn unresolved_rows()
 /// A row that found no room, and rows that differ from it in one place.
 pub fn full_rows()
     ensures { FullRows }
+{}
+
+/// Numbers that are light, are night or graze, and numbers just past them.
+pub fn sides_of_the_horizon()
+    ensures { HorizonRows }
+{}
+
+/// The ends of the bracket of pi, and numbers just past them.
+pub fn ends_of_the_bracket()
+    ensures { PiRows }
+{}
+
+/// Square roots and cube roots of squares, also at the tolerance, and numbers that are none.
+pub fn known_roots()
+    ensures squares { SquareRootRows }
+    ensures cubes { CubeRootRows }
+{}
+
+/// Pairs at whole quarter turns, and one at the tolerance; angles of which sines are Lipschitz.
+pub fn known_pairs()
+    ensures pairs { PairRows }
+    ensures angles { ModestRows }
 {}

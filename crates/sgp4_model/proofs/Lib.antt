@@ -41,3 +41,4 @@ pub mod MeanExists
 mod VectorBounds
 mod PositionLines
 pub mod PositionExists
+pub mod DayExists

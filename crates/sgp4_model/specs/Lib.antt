@@ -3,6 +3,7 @@ pub mod AngleSums
 pub mod Certified
 pub mod Coefficients
 pub mod Constants
+pub mod DayLaws
 pub mod DaySolution
 pub mod Degrees
 pub mod OrderLaws

@@ -2,6 +2,7 @@
 #![tactic(auto)]
 
 pub mod certified_laws;
+pub mod day_laws;
 pub mod kepler_laws;
 pub mod laws;
 pub mod motion_laws;
