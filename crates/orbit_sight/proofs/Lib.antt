@@ -5,6 +5,8 @@ mod DistanceLemmas
 mod FoundLemmas
 mod GuardLemmas
 mod MomentLemmas
+mod NearOrbitLemmas
 mod OrbitLemmas
+mod PeriodicLemmas
 mod SolutionLemmas
 mod WidthLemmas

@@ -135,7 +135,7 @@ unfolding turned
 sine_of_epoch consts k held = (held.sin_m0.known tt tt).inside
 
 module _ (set : SetRecord) (pi x : ℚ) (k : ConstRecord) (m : MeanRecord) (s : SecularRecord) (consts : Consts Plain) (is_pi : IsPi pi) (near_earth : IsNearEarth set) (constants : IsConsts set pi k)
-        (held : IsHeldConsts plain_covers plain_extent true consts middle k reach_consts) (week : WeekInside x) (mean : IsMeanUnguarded k (unit_minutes 1 *ℚ x) s pi m) where
+    (held : IsHeldConsts plain_covers plain_extent true consts middle k reach_consts) (week : WeekInside x) (mean : IsMeanUnguarded k (unit_minutes 1 *ℚ x) s pi m) where
   loss_near : IsNear (ratio (pos 7) 10000) s.tempe zero_ℚ
   loss_near =
       subst (λ z. IsNear (ratio (pos 7) 10000) z zero_ℚ) (loss_is k.bstar k.c4 k.c5 k.sin_m0 s.of_mm.sine x ∙ sym mean.factors.tempe_is)

@@ -1,5 +1,5 @@
 -- A set that is taken has a position at each instant within seven days of its epoch.
-use Rattle.std.proofs.Common.{◌≡◌, ◌∙◌, ap, sym, subst, true, [], ◌∷◌, ◌*◌, ◌^◌, ◌-◌, ℤ, pos, negsuc, ◌-ℤ◌}
+use Rattle.std.proofs.Common.{◌≡◌, subst, true, [], ◌∷◌, ◌*◌, ◌^◌, ◌-◌, ℤ, pos, negsuc, ◌-ℤ◌}
 use Rattle.exact.specs.Rational.{ℚ, abs_ℚ, inverse, ratio, neg_ℚ, one_ℚ, zero_ℚ, ◌+ℚ◌, ◌-ℚ◌, ◌*ℚ◌, ◌/ℚ◌, ◌^ℚ◌, ◌≤ℚ◌, ◌<ℚ◌}
 use Rattle.exact.proofs.Bounds.{abs_le}
 use Rattle.exact.proofs.Intervals.{Inside, between, inside, le_on}
@@ -31,7 +31,7 @@ use Rattle.sgp4_shape.specs.declared.consts.Consts.{Consts}
 use Rattle.orbit_sight.specs.Craft.{IsCraft, plain_covers, plain_extent}
 use Rattle.orbit_sight.specs.Moment.{units_from}
 use Rattle.orbit_sight.proofs.DayLemmas.{some_pi}
-use Rattle.orbit_sight.proofs.DistanceLemmas.{IsNearOrbit, distance_above}
+use Rattle.orbit_sight.proofs.DistanceLemmas.{IsNearOrbit, distance_above, vector_within}
 use Rattle.orbit_sight.proofs.MomentLemmas.{minutes_are}
 use Rattle.orbit_sight.proofs.OrbitLemmas.{axis_above, eccentricity_guarded, near_orbit, week_inside}
 
@@ -132,10 +132,7 @@ module _ (k : ConstRecord) (m : MeanRecord) (f pi : ℚ) (is_pi : IsPi pi) (orbi
       )
 
   pub sized : (q : PeriodicRecord) (root : ℚ) (r : Vector) → IsPositionUnguarded k m q pi root r → AreSized 113884775577132 q.ax q.ay
-  sized q root r p =
-      let long = p.long_period in
-      let v = vector_inside q.of_wm q.ax q.ay long.wm_pair long.ax_is (long.ay_is ∙ ap (λ z. m.em *ℚ q.of_wm.sine +ℚ z *ℚ k.aycof) long.v_is) in
-      le_by (abs_ℚ q.ax ∷ abs_ℚ q.ay ∷ []) (gap (size_first q.ax v.0) ⊕ gap (size_second q.ay v.1) ⊕ known 4503599627376320 2814749767106560000) (search reads depth 90) tt
+  sized q root r p = le_trans (vector_within k m q f pi root r is_pi orbit p) (le_by [] (known 5824 2814749767106560000) (search reads depth 90) tt)
 
 -- ---- the solution, with what is known on the way
 pub record Solution (set : ElementsRecord) (at : ℤ) (consts : Consts Plain) : Type 0 where

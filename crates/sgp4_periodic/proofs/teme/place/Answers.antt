@@ -55,8 +55,8 @@ returns-clause-exists g c h pi k m is_pi consts mean divides =
     let of_consts = covered_consts _ _ g.E.Enc.tells _ k consts h in
     let of_mean = covered_mean _ _ g.E.Enc.tells _ h m mean in
     let found = position_exists k m pi is_pi divides (λ turn ax ay pair ax_is ay_is.
-      let e = c.ellipse_of-ellipse.ensures h pi k m (before_root k m turn ax ay) _ _ is_pi of_consts of_mean (is_ellipse k m turn ax ay pi divides pair ax_is ay_is) in
-      (vector_short _ _ ax ay (λ u. untrue (c.in_ok-root.ensures.none.1 u) refl) (law _ h ax e.ax.covers) (law _ h ay e.ay.covers), rectum_positive _ _ (rw c.bounds.ensures at (c.lie_above_0.ensures.0 (grind (arith, c.if-not-lie_above_0.false)))) (law _ h _ e.pl.covers))) in
+    let e = c.ellipse_of-ellipse.ensures h pi k m (before_root k m turn ax ay) _ _ is_pi of_consts of_mean (is_ellipse k m turn ax ay pi divides pair ax_is ay_is) in
+    (vector_short _ _ ax ay (λ u. untrue (c.in_ok-root.ensures.none.1 u) refl) (law _ h ax e.ax.covers) (law _ h ay e.ay.covers), rectum_positive _ _ (rw c.bounds.ensures at (c.lie_above_0.ensures.0 (grind (arith, c.if-not-lie_above_0.false)))) (law _ h _ e.pl.covers))) in
     let q = found.1.0 in
     let v = found.1.1.0 in
     let p = found.1.1.1 in
