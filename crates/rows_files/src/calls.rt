@@ -12,6 +12,16 @@ pub fn words_of(alloc: Global, line: &[u8]) -> Result<Vec<Text>, AllocError> {
     Ok(words)
 }
 
+/// A run over files and an output in memory.
+pub fn run_on(
+    alloc: Global,
+    words: &[Text],
+    shelf: &mut MemoryShelf,
+    out: &mut MemorySink,
+) -> Outcome {
+    run(alloc, words, shelf, out)
+}
+
 /// What the words of a line come to over this output and a shelf that holds one file, `a`, with these bytes.
 pub fn run_over(
     alloc: Global,
@@ -22,7 +32,7 @@ pub fn run_over(
     let words = words_of(alloc, line)?;
     let mut shelf = MemoryShelf::make(alloc)?;
     shelf.add(b"a", bytes)?;
-    Ok(run(alloc, words.as_slice(), &mut shelf, out))
+    Ok(run_on(alloc, words.as_slice(), &mut shelf, out))
 }
 
 /// What the words of a line write over such a shelf, and the exit status.

@@ -1,9 +1,9 @@
-use crate::calls::{shown_by, words_of};
+use crate::calls::{run_on, shown_by, words_of};
 use crate::files::{VANGUARD, VANGUARD_SHOWN, VANGUARD1, VANGUARD2, WORDS};
 use outside_io::{MemoryShelf, MemorySink};
 use std::alloc::{AllocError, Global};
 use std::test::Fail;
-use top_call::{run, status};
+use top_call::status;
 
 /// A name and a line 1 alone.
 const LINE2_MISSING: &[u8] =
@@ -128,11 +128,11 @@ fn a_load_that_fails_is_told_and_the_next_run_reads(rt: HostRuntime) -> Result<(
     shelf.add(b"a", VANGUARD)?;
     shelf.fail_at(1)?;
     let mut out = MemorySink::make(alloc, 1000)?;
-    let outcome = run(alloc, words.as_slice(), &mut shelf, &mut out);
+    let outcome = run_on(alloc, words.as_slice(), &mut shelf, &mut out);
     assert_eq!(rt; out.written(), b"error read\n".as_slice());
     assert_eq!(rt; status(&outcome), 6);
     let mut out = MemorySink::make(alloc, 1000)?;
-    let outcome = run(alloc, words.as_slice(), &mut shelf, &mut out);
+    let outcome = run_on(alloc, words.as_slice(), &mut shelf, &mut out);
     assert_eq!(rt; out.written(), VANGUARD_SHOWN);
     assert_eq!(rt; status(&outcome), 0);
     Ok(())

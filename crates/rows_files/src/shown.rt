@@ -4,7 +4,9 @@ use crate::files::{
     TWICE_SHOWN, VANGUARD, VANGUARD_SHOWN, WORDS,
 };
 use catalogue::Catalogue;
+use elements::Text;
 use outside_io::{MemorySink, NeverFailShelf, NeverFailSink};
+use std::alloc::Global;
 use std::test::Fail;
 use top_call::{Outcome, Product, run_for_nobody, status};
 
@@ -63,6 +65,16 @@ fn the_product_is_the_catalogue(rt: HostRuntime) -> Result<(), Fail> {
     Ok(())
 }
 
+/// A run of these words over such a shelf and such an output.
+fn run_safely(
+    alloc: Global,
+    words: &[Text],
+    shelf: &mut NeverFailShelf,
+    out: &mut NeverFailSink,
+) -> Outcome {
+    run_for_nobody(alloc, words, shelf, out)
+}
+
 #[test]
 fn over_what_never_fails_a_run_is_done(rt: HostRuntime) -> Result<(), Fail> {
     let alloc = rt.alloc();
@@ -70,10 +82,10 @@ fn over_what_never_fails_a_run_is_done(rt: HostRuntime) -> Result<(), Fail> {
     let mut shelf = NeverFailShelf::make(alloc)?;
     let mut out = NeverFailSink::make();
     // A file that was not added is there, and has no bytes.
-    let empty = run_for_nobody(alloc, words.as_slice(), &mut shelf, &mut out);
+    let empty = run_safely(alloc, words.as_slice(), &mut shelf, &mut out);
     assert_eq!(rt; status(&empty), 4);
     shelf.add(b"a", VANGUARD)?;
-    let outcome = run_for_nobody(alloc, words.as_slice(), &mut shelf, &mut out);
+    let outcome = run_safely(alloc, words.as_slice(), &mut shelf, &mut out);
     assert_eq!(rt; number_shown(&outcome), Some(5));
     Ok(())
 }
