@@ -1,44 +1,48 @@
 //! Files of two-line sets, and their faults.
 use crate::texts::{START, STATION1, STATION2, VANGUARD1, VANGUARD2, lines, only, read};
-use catalogue::{CatFault, SetFault};
+use catalogue::{CatFault, Catalogue, SetFault};
+use elements::Elements;
 use std::test::Fail;
 use tle_read::TleFault;
 
+/// Whether these are the elements that the lines of Vanguard 1 write.
+fn is_vanguard(elements: &Elements) -> bool {
+    let decimals = [
+        (elements.motion(), 1_082_419_157, 8),
+        (elements.ecc(), 1_859_667, 7),
+        (elements.incl(), 342_682, 4),
+        (elements.node(), 3_487_242, 4),
+        (elements.argp(), 3_317_664, 4),
+        (elements.anomaly(), 193_264, 4),
+        (elements.bstar(), 28098, 9),
+    ];
+    elements.number() == 5
+        && elements.epoch().nanos() == 15_403_819_733_568_000
+        && decimals.iter().all(|(found, digits, places)| found.digits() == *digits
+            && found.places() == *places)
+}
+
+/// Whether the catalogue has Vanguard 1 alone, without a name.
+fn has_vanguard_alone(catalogue: &Catalogue) -> bool {
+    if catalogue.len() != 1 {
+        return false;
+    }
+    let entry = catalogue.entry(0);
+    is_vanguard(&entry.elements) && entry.name.bytes() == b"-".as_slice()
+}
+
 #[test]
 fn a_set_is_read(rt: HostRuntime) -> Result<(), Fail> {
-    let mut bytes = Vec::new(rt.alloc());
-    for line in [VANGUARD1, VANGUARD2] {
-        bytes.extend_from_slice(line)?;
-        bytes.extend_from_slice(b"\r\n")?;
-    }
+    let bytes = lines(
+        rt.alloc(),
+        &[
+            b"1 00005U 58002B   00179.78495062  .00000023  00000-0  28098-4 0  4753\r",
+            b"2 00005  34.2682 348.7242 1859667 331.7664  19.3264 10.82419157413667\r",
+        ],
+    )?;
     match read(rt.alloc(), bytes.as_slice(), START) {
         Ok(catalogue) => {
-            assert_eq!(rt; catalogue.len(), 1, "one satellite");
-            if catalogue.len() == 1 {
-                let entry = catalogue.entry(0);
-                let elements = entry.elements;
-                assert_eq!(rt; elements.number(), 5, "the number");
-                assert_eq!(rt;
-                    elements.epoch().nanos(),
-                    15_403_819_733_568_000,
-                    "the epoch"
-                );
-                for (found, digits, places) in [
-                    (elements.motion(), 1_082_419_157, 8),
-                    (elements.ecc(), 1_859_667, 7),
-                    (elements.incl(), 342_682, 4),
-                    (elements.node(), 3_487_242, 4),
-                    (elements.argp(), 3_317_664, 4),
-                    (elements.anomaly(), 193_264, 4),
-                    (elements.bstar(), 28098, 9),
-                ] {
-                    assert!(rt;
-                        found.digits() == digits && found.places() == places,
-                        "{digits}"
-                    );
-                }
-                assert!(rt; entry.name.bytes() == b"-".as_slice(), "no name");
-            }
+            assert!(rt; has_vanguard_alone(&catalogue), "one satellite");
             assert!(rt; catalogue.find(5).is_some(), "the number is there");
             assert!(rt; catalogue.find(6).is_none(), "no other is");
         }
