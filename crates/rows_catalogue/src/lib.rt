@@ -1,6 +1,8 @@
 //! Tests of catalogues.
 #![tactic(auto)]
 
+ghost use Rattle.rows_catalogue.specs.SmallNames.{SmallNames};
+
 #[cfg(test)]
 mod adding;
 #[cfg(test)]
@@ -21,3 +23,8 @@ mod messages;
 mod pieces;
 #[cfg(test)]
 mod texts;
+
+/// Texts that are names and texts that are not.
+pub fn small_names()
+    ensures { SmallNames }
+{}

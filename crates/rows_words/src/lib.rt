@@ -1,6 +1,8 @@
 //! Tests of the words of the command line.
 #![tactic(auto)]
 
+ghost use Rattle.rows_words.specs.SmallRequests.{SmallRequests};
+
 #[cfg(test)]
 mod day_values;
 #[cfg(test)]
@@ -11,3 +13,8 @@ mod options;
 mod sizes;
 #[cfg(test)]
 mod words;
+
+/// What is said of requests with small parts and numbers.
+pub fn small_requests()
+    ensures { SmallRequests }
+{}

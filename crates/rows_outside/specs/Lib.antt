@@ -1,0 +1,3 @@
+pub mod SmallCounts
+pub mod SmallGrowths
+pub mod SmallLoads

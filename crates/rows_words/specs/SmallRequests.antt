@@ -1,0 +1,29 @@
+-- What is said of small requests: where the names of their files stand, and the ranges of their numbers.
+use Rattle.std.specs.Prelude.{ℕ, List, [], ◌∷◌, codes, pos}
+use Rattle.pass_words.specs.Names.{AreNamesIn}
+use Rattle.pass_words.specs.Ranges.{IsInRange}
+use Rattle.pass_words.specs.declared.request.Request.{Request}
+use Rattle.pass_words.specs.declared.request.Request.TheVariants.{Locate, Show}
+
+-- a command and another word of two bytes
+abbrev pub small_words : List (List ℕ)
+small_words = codes "show" ∷ codes "xy" ∷ []
+
+-- the request whose file is named by a part of a word
+abbrev pub of_part : ℕ → ℕ → Request
+of_part word from = Show (record { word = word; from = from }) (pos 0)
+
+-- the request for a satellite of that file with this number
+abbrev pub of_number : ℕ → Request
+of_number number = Locate (record { word = 2; from = 0 }) number (pos 0)
+
+-- a name stands in a word behind the command and is not empty; a number is below 1,000,000,000
+pub record SmallRequests : Type 0 where
+  pub whole_word : AreNamesIn small_words (of_part 2 0)
+  pub last_byte : AreNamesIn small_words (of_part 2 1)
+  pub nothing_left : ¬ (AreNamesIn small_words (of_part 2 2))
+  pub in_the_command : ¬ (AreNamesIn small_words (of_part 1 0))
+  pub no_such_word : ¬ (AreNamesIn small_words (of_part 3 0))
+  pub located : AreNamesIn small_words (of_number 5)
+  pub greatest : IsInRange (of_number 999_999_999)
+  pub too_great : ¬ (IsInRange (of_number 1_000_000_000))
