@@ -54,7 +54,7 @@ fn bounds_of<E: Enc>(k: &Consts<E>) -> [Iv; 32] {
 /// Whether the interval holds a number next to both of these units, and is at most so many units wide.
 fn holds(bounds: Iv, units: [i64; 2], widest: i64) -> bool {
     let (lo, hi) = bounds.ends();
-    lo <= units[0] && units[1] <= hi && hi.wrapping_sub(lo) <= widest
+    lo <= units[0] && units[1] <= hi && hi.saturating_sub(lo) <= widest
 }
 
 /// Whether each constant is enclosed, and narrow.

@@ -21,7 +21,7 @@ fn perigee<E: Enc>(motion: &Recovered<E>) -> E {
 /// Whether the enclosure holds a number next to both of these units, and is at most so many units wide.
 fn holds<E: Enc>(enclosure: E, units: [i64; 2], widest: i64) -> bool {
     let (lo, hi) = enclosure.bounds().ends();
-    lo <= units[0] && units[1] <= hi && hi.wrapping_sub(lo) <= widest
+    lo <= units[0] && units[1] <= hi && hi.saturating_sub(lo) <= widest
 }
 
 /// Whether each quantity is enclosed, and narrow.

@@ -62,7 +62,7 @@ fn mean_at<E: Enc>(consts: &Consts<E>, minutes: i64) -> Option<Mean<E>> {
 /// Whether the bounds hold the unit and are narrow.
 fn holds(bounds: Iv, floor: i64) -> bool {
     let (lo, hi) = bounds.ends();
-    lo <= floor && floor < hi && hi.wrapping_sub(lo) <= WIDEST
+    lo <= floor && floor < hi && hi.saturating_sub(lo) <= WIDEST
 }
 
 #[test]

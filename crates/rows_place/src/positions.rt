@@ -97,7 +97,7 @@ fn place_at<E: Enc>(consts: &Consts<E>, minutes: i64) -> Option<Vec3<E>> {
 /// Whether the bounds hold the unit and are so narrow.
 fn holds(bounds: Iv, floor: i64, widest: i64) -> bool {
     let (lo, hi) = bounds.ends();
-    lo <= floor && floor < hi && hi.wrapping_sub(lo) <= widest
+    lo <= floor && floor < hi && hi.saturating_sub(lo) <= widest
 }
 
 /// Whether each coordinate holds the unit that is written from this place on, and is so narrow.

@@ -1,3 +1,4 @@
 pub mod Covering
 pub mod HeldConsts
 pub mod HeldMean
+pub mod Lifted

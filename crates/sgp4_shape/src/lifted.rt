@@ -1,13 +1,16 @@
 //! Constants from one enclosure to another.
+ghost use Rattle.std.specs.Prelude.{T};
 ghost use Rattle.sgp4_model.specs.OrbitRecords.{ConstRecord};
 ghost use Rattle.sgp4_shape.specs.Covering.{CoversConsts};
+ghost use Rattle.sgp4_shape.specs.Lifted.{IsNarrowLift};
 
 use crate::Consts;
 use fixed_iv::Enc;
 
 /// The same constants as enclosures of another kind, by their bounds.
 pub fn lift<A: Enc, B: Enc>(consts: &Consts<A>) -> Consts<B>
-    ensures { (k : ConstRecord) → CoversConsts A.covers consts.now k → CoversConsts B.covers result k }
+    ensures covers { (k : ConstRecord) → CoversConsts A.covers consts.now k → CoversConsts B.covers result k }
+    ensures narrow { T B.tells → IsNarrowLift A.extent B.extent consts.now result }
 {
     Consts {
         i: B::constant(consts.i.bounds()),

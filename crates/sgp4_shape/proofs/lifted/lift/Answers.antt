@@ -1,7 +1,7 @@
 use Rattle.sgp4_shape.proofs.lifted.lift.Goals as goal
 
-pub returns : goal.returns
-returns g c k held =
+pub returns-clause-covers : goal.returns-clause-covers
+returns-clause-covers g c k held =
     let law = g.met.A.Enc.contained in
     record {
       i = λ h. c.constant.ensures.covers h _ (rw c.bounds.ensures (law c.args.consts.now.i h _ (held.i h)));
@@ -37,3 +37,39 @@ returns g c k held =
       d4 = λ h. c.constant-31.ensures.covers h _ (rw c.bounds-31.ensures (law c.args.consts.now.d4 h _ (held.d4 h)));
       t5cof = λ h. c.constant-32.ensures.covers h _ (rw c.bounds-32.ensures (law c.args.consts.now.t5cof h _ (held.t5cof h)));
     }
+
+pub returns-clause-narrow : goal.returns-clause-narrow
+returns-clause-narrow g c told = record {
+  i = rw c.bounds.ensures at (c.constant.ensures.narrow told);
+  c = rw c.bounds-2.ensures at (c.constant-2.ensures.narrow told);
+  si = rw c.bounds-3.ensures at (c.constant-3.ensures.narrow told);
+  e = rw c.bounds-4.ensures at (c.constant-4.ensures.narrow told);
+  w0 = rw c.bounds-5.ensures at (c.constant-5.ensures.narrow told);
+  o0 = rw c.bounds-6.ensures at (c.constant-6.ensures.narrow told);
+  m0 = rw c.bounds-7.ensures at (c.constant-7.ensures.narrow told);
+  bstar = rw c.bounds-8.ensures at (c.constant-8.ensures.narrow told);
+  a = rw c.bounds-9.ensures at (c.constant-9.ensures.narrow told);
+  eta = rw c.bounds-10.ensures at (c.constant-10.ensures.narrow told);
+  con41 = rw c.bounds-11.ensures at (c.constant-11.ensures.narrow told);
+  c5 = rw c.bounds-12.ensures at (c.constant-12.ensures.narrow told);
+  xmcof = rw c.bounds-13.ensures at (c.constant-13.ensures.narrow told);
+  xlcof = rw c.bounds-14.ensures at (c.constant-14.ensures.narrow told);
+  aycof = rw c.bounds-15.ensures at (c.constant-15.ensures.narrow told);
+  delmo = rw c.bounds-16.ensures at (c.constant-16.ensures.narrow told);
+  sin_m0 = rw c.bounds-17.ensures at (c.constant-17.ensures.narrow told);
+  n0 = rw c.bounds-18.ensures at (c.constant-18.ensures.narrow told);
+  mdot = rw c.bounds-19.ensures at (c.constant-19.ensures.narrow told);
+  wdot = rw c.bounds-20.ensures at (c.constant-20.ensures.narrow told);
+  odot = rw c.bounds-21.ensures at (c.constant-21.ensures.narrow told);
+  c1 = rw c.bounds-22.ensures at (c.constant-22.ensures.narrow told);
+  c4 = rw c.bounds-23.ensures at (c.constant-23.ensures.narrow told);
+  omgcof = rw c.bounds-24.ensures at (c.constant-24.ensures.narrow told);
+  t2cof = rw c.bounds-25.ensures at (c.constant-25.ensures.narrow told);
+  d2 = rw c.bounds-26.ensures at (c.constant-26.ensures.narrow told);
+  nodecf = rw c.bounds-27.ensures at (c.constant-27.ensures.narrow told);
+  t3cof = rw c.bounds-28.ensures at (c.constant-28.ensures.narrow told);
+  d3 = rw c.bounds-29.ensures at (c.constant-29.ensures.narrow told);
+  t4cof = rw c.bounds-30.ensures at (c.constant-30.ensures.narrow told);
+  d4 = rw c.bounds-31.ensures at (c.constant-31.ensures.narrow told);
+  t5cof = rw c.bounds-32.ensures at (c.constant-32.ensures.narrow told);
+}
