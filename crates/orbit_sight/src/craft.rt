@@ -31,6 +31,7 @@ impl Model for Craft {
 }
 
 impl Craft {
+    ghost use Rattle.sgp4_motion.specs.Fate.{IsBetweenLimits};
     ghost use Rattle.elements.specs.Elements.{record_of_elements};
     ghost use Rattle.orbit_sight.specs.Craft.{HoldsVector, IsBoundedVector, IsNarrowVector};
     ghost use Rattle.sgp4_model.specs.PositionAt.{IsPositionAt};
@@ -42,6 +43,7 @@ impl Craft {
     pub fn make(set: &Elements) -> Result<Craft, SatFault>
         ensures made { IfOk result (λ craft. craft ≡ set.now) }
         ensures accepted { IfOk result (λ _. IsOrdinary (record_of_elements set.now) × IsNearEarth (record_of_elements set.now)) }
+        ensures between { IfOk result (λ _. IsBetweenLimits (record_of_elements set.now)) }
         ensures exact { IsRefusedExactly (record_of_elements set.now) (λ fault. result ≡ Err fault) }
         ensures refused { IfErr result (MayRefuseSet (record_of_elements set.now)) }
     {

@@ -84,13 +84,21 @@ fn mean_elements_hold_the_values_from_outside(rt: HostRuntime) {
     }
 }
 
+/// Eccentricities a million units to each side of -0.001 and of 1, and whether they are inside the guard.
+const NEXT_TO_THE_GUARD: [(i64, bool); 4] = [
+    (-281_475_976_710, false),
+    (-281_473_976_710, true),
+    (281_474_975_710_656, true),
+    (281_474_977_710_656, false),
+];
+
 #[test]
-fn no_mean_elements_outside_the_guard(rt: HostRuntime) {
+fn mean_elements_are_given_inside_the_guard_alone(rt: HostRuntime) {
     for row in ROWS.iter() {
         let mut consts: Consts<Plain> = consts_of(&row.0);
-        for e in [-562_949_953_421, 281_474_976_710_656] {
+        for (e, inside) in NEXT_TO_THE_GUARD {
             consts.e = unit(e);
-            assert!(rt; mean_at(&consts, 0).is_none());
+            assert!(rt; mean_at(&consts, 0).is_some() == inside);
         }
     }
 }

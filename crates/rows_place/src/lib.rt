@@ -5,3 +5,5 @@
 mod expected;
 #[cfg(test)]
 mod positions;
+#[cfg(test)]
+mod published;

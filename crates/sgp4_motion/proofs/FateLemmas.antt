@@ -1,7 +1,12 @@
 -- What may be refused and what may be accepted.
-use Rattle.std.proofs.Common.{inl, inr, refl}
+use Rattle.std.proofs.Common.{◌⊎◌, inl, inr, refl}
+use Rattle.exact.specs.Rational.{◌≤ℚ◌}
 use Rattle.sgp4_shape.specs.declared.fault.SatFault.TheVariants.{Eccentric, Inclined, Drag, Deep, Low, Far}
+use Rattle.sgp4_model.specs.Numerals.{decimal, whole}
+use Rattle.sgp4_model.specs.Records.{SetRecord}
+use Rattle.sgp4_motion.specs.Fate.{HasPerigeeBelow, HasPeriodFrom, IsBetweenLimits}
 use Rattle.sgp4_motion.specs.FateLaws.{AcceptedSetsAreNearALimit, RefusedSetsMayBeRefused}
+use Rattle.sgp4_motion.proofs.FaultLemmas.{not_lt}
 
 pub refused_sets_may_be_refused : RefusedSetsMayBeRefused
 refused_sets_may_be_refused set first last Eccentric h = h
@@ -11,10 +16,19 @@ refused_sets_may_be_refused set first last Deep h = h
 refused_sets_may_be_refused set first last Low h = h
 refused_sets_may_be_refused set first last Far h = absurd h
 
+-- the causes that are left where the mean motion is between the limits
+long_period : {set : SetRecord} → IsBetweenLimits set → (set.motion ≤ℚ decimal 63 1) ⊎ HasPeriodFrom (decimal 224999 3) set → HasPeriodFrom (decimal 224999 3) set
+long_period between (inl slow) = absurd (not_lt slow between.above)
+long_period between (inr long) = long
+
+low_perigee : {set : SetRecord} → IsBetweenLimits set → (whole 17 ≤ℚ set.motion) ⊎ HasPerigeeBelow (decimal 300001 3) set → HasPerigeeBelow (decimal 300001 3) set
+low_perigee between (inl fast) = absurd (not_lt fast between.below)
+low_perigee between (inr low) = low
+
 pub accepted_sets_are_near_a_limit : AcceptedSetsAreNearALimit
 accepted_sets_are_near_a_limit set first last Eccentric h k = absurd (h.ordinary.not_eccentric k)
 accepted_sets_are_near_a_limit set first last Inclined h k = absurd (h.ordinary.not_inclined k.1)
 accepted_sets_are_near_a_limit set first last Drag h k = absurd (h.ordinary.not_dragged k.1)
-accepted_sets_are_near_a_limit set first last Deep h k = inl refl
-accepted_sets_are_near_a_limit set first last Low h k = inr refl
+accepted_sets_are_near_a_limit set first last Deep h k = inl (refl, long_period h.between k.slow)
+accepted_sets_are_near_a_limit set first last Low h k = inr (refl, low_perigee h.between k.fast)
 accepted_sets_are_near_a_limit set first last Far h k = absurd (h.not_far k.1)

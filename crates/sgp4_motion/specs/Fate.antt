@@ -94,10 +94,11 @@ MayRefuse set first last Inclined = MayRefuseSet set Inclined
 MayRefuse set first last Drag = MayRefuseSet set Drag
 MayRefuse set first last Deep = MayRefuseSet set Deep
 MayRefuse set first last Low = MayRefuseSet set Low
-MayRefuse set first last Far = (IsOrdinary set × IsNearEarth set) × IsFar set first last
+MayRefuse set first last Far = ((IsOrdinary set × IsBetweenLimits set) × IsNearEarth set) × IsFar set first last
 
 -- the set may be accepted from the first instant to the last
 pub record MayAccept (set : SetRecord) (first last : ℤ) : Type 0 where
   pub ordinary : IsOrdinary set
+  pub between : IsBetweenLimits set
   pub near_earth : IsNearEarth set
   pub not_far : ¬ IsFar set first last

@@ -1,14 +1,20 @@
 -- Laws of what may be refused and accepted, as public functions promise them.
 use Rattle.std.specs.Prelude.{◌≡◌, ◌⊎◌, ℤ}
+use Rattle.sgp4_model.specs.Numerals.{decimal}
 use Rattle.sgp4_model.specs.Records.{SetRecord}
 use Rattle.sgp4_shape.specs.declared.fault.SatFault.{SatFault}
 use Rattle.sgp4_shape.specs.declared.fault.SatFault.TheVariants.{Deep, Low}
-use Rattle.sgp4_motion.specs.Fate.{MayAccept, MayRefuse, MayRefuseSet}
+use Rattle.sgp4_motion.specs.Fate.{HasPerigeeBelow, HasPeriodFrom, MayAccept, MayRefuse, MayRefuseSet}
 
 -- a set that may be refused at whatever instants may be refused from any instant to any other
 abbrev pub RefusedSetsMayBeRefused : Type 0
 RefusedSetsMayBeRefused = (set : SetRecord) (first last : ℤ) (fault : SatFault) → MayRefuseSet set fault → MayRefuse set first last fault
 
+-- the fault is that of the period, and some period is of at least 224.999 minutes, or that of the perigee, and some perigee is
+-- of less than 300.001 km
+abbrev pub IsNextToALimit : SetRecord → SatFault → Type 0
+IsNextToALimit set fault = ((fault ≡ Deep) × HasPeriodFrom (decimal 224999 3) set) ⊎ ((fault ≡ Low) × HasPerigeeBelow (decimal 300001 3) set)
+
 -- a set that may be accepted may be refused at most for its period or its perigee, where these are next to the limit
 abbrev pub AcceptedSetsAreNearALimit : Type 0
-AcceptedSetsAreNearALimit = (set : SetRecord) (first last : ℤ) (fault : SatFault) → MayAccept set first last → MayRefuse set first last fault → (fault ≡ Deep) ⊎ (fault ≡ Low)
+AcceptedSetsAreNearALimit = (set : SetRecord) (first last : ℤ) (fault : SatFault) → MayAccept set first last → MayRefuse set first last fault → IsNextToALimit set fault

@@ -11,6 +11,7 @@ returns-in-Some-clause-found c =
       record {
         accepted = record {
           ordinary = c.in-Ok.ensures.accepted.0;
+          between = c.in-Ok.ensures.between;
           near_earth = c.in-Ok.ensures.accepted.1;
           not_far = λ far. false≢true (c.if-is_far_at.ensures.1 far);
         };
