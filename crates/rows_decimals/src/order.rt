@@ -21,6 +21,11 @@ fn decimals_stand_as_their_numbers(rt: HostRuntime) {
     assert!(rt; !half.is_at_most(third), "0.5 and 0.333");
     assert!(rt; less.is_between(-7, 0), "-7 from -7 to 0");
     assert!(rt; !half.is_between(1, 2), "0.5 from 1 to 2");
+    assert!(rt; less.is_between(-8, -7), "-7 from -8 to -7");
+    assert!(rt;
+        half.is_at_most(half) && !half.is_below(half),
+        "0.5 and 0.5"
+    );
     assert!(rt;
         Decimal::whole(3).cmp(&Decimal::of_scaled(3, 18)) == Ordering::Greater,
         "3 and 3e-18"

@@ -22,7 +22,7 @@ fn of_range(line: u8, first: u8) -> Option<TleFault> {
 fn the_first_fault_is_answered(rt: HostRuntime) -> Result<(), Fail> {
     let changed = with(STATION1, 25, b"51782529", b'7');
     // A set without its last byte, with other blanks at the ends, with lines that are changed or exchanged.
-    let pairs: [(&[u8], &[u8], Option<TleFault>); 12] = [
+    let pairs: [(&[u8], &[u8], Option<TleFault>); 13] = [
         (STATION1, STATION2, None),
         (&changed, STATION2, of_check(1, 7, 8)),
         (
@@ -55,6 +55,11 @@ fn the_first_fault_is_answered(rt: HostRuntime) -> Result<(), Fail> {
             b"1 25544U 98067A   08264.51782528 -.00002182  00000-0 -11606-4 0  2927 \t\r \r",
             b"2 25544  51.6416 247.4627 0006703 130.5360 325.0288 15.72125391563537\r",
             None,
+        ),
+        (
+            b" 1 25544U 98067A   08264.51782528 -.00002182  00000-0 -11606-4 0  2927",
+            STATION2,
+            Some(TleFault::Length { line: 1, found: 70 }),
         ),
         (STATION1, VANGUARD2, Some(TleFault::NumbersDiffer)),
         (STATION2, STATION1, Some(TleFault::LineNumber { line: 1 })),
@@ -198,12 +203,14 @@ fn values_end_at_their_ranges(rt: HostRuntime) -> Result<(), Fail> {
         let line = with(VANGUARD1, 19, text, last);
         assert_eq!(rt; read_pair(&line, VANGUARD2).err(), fault, "day {text:?}");
     }
-    let values: [(usize, &[u8], u8, Option<TleFault>); 9] = [
+    let values: [(usize, &[u8], u8, Option<TleFault>); 11] = [
         (9, b"180.0000", b'1', None),
         (9, b"180.0001", b'2', of_range(2, 9)),
         (18, b"360.0000", b'6', None),
         (18, b"360.0001", b'7', of_range(2, 18)),
+        (35, b"360.0000", b'6', None),
         (35, b"360.0001", b'7', of_range(2, 35)),
+        (44, b"360.0000", b'1', None),
         (44, b"360.0001", b'2', of_range(2, 44)),
         (53, b" 0.00000000", b'9', of_range(2, 53)),
         (53, b".0000000001", b'0', None),
@@ -221,10 +228,44 @@ fn values_end_at_their_ranges(rt: HostRuntime) -> Result<(), Fail> {
 }
 
 #[test]
+fn the_lowest_value_out_of_its_range_is_the_first_fault(rt: HostRuntime) -> Result<(), Fail> {
+    // The columns 9 to 63 of line 2 with the values from one on out of their ranges, the check digit, and the fault.
+    let rows: [(&[u8], u8, Option<TleFault>); 4] = [
+        (
+            b"180.0001 360.0001 1859667 360.0001 360.0001  0.00000000",
+            b'9',
+            of_range(2, 9),
+        ),
+        (
+            b" 34.2682 360.0001 1859667 360.0001 360.0001  0.00000000",
+            b'4',
+            of_range(2, 18),
+        ),
+        (
+            b" 34.2682 348.7242 1859667 360.0001 360.0001  0.00000000",
+            b'4',
+            of_range(2, 35),
+        ),
+        (
+            b" 34.2682 348.7242 1859667 331.7664 360.0001  0.00000000",
+            b'4',
+            of_range(2, 44),
+        ),
+    ];
+    for &(text, last, fault) in rows.iter() {
+        let line = with(VANGUARD2, 9, text, last);
+        assert_eq!(rt; read_pair(VANGUARD1, &line).err(), fault, "{text:?}");
+    }
+    Ok(())
+}
+
+#[test]
 fn ephemeris_types_other_than_0_and_2_are_not_read(rt: HostRuntime) -> Result<(), Fail> {
-    let types: [(&[u8], u8, Option<TleFault>); 5] = [
+    let types: [(&[u8], u8, Option<TleFault>); 7] = [
         (b"4", b'7', Some(TleFault::Theory)),
         (b"1", b'4', Some(TleFault::Theory)),
+        (b"3", b'6', Some(TleFault::Theory)),
+        (b"9", b'2', Some(TleFault::Theory)),
         (b"2", b'5', None),
         (b" ", b'3', None),
         (b"0", b'3', None),

@@ -89,6 +89,43 @@ fn numbers_may_begin_with_a_letter(rt: HostRuntime) -> Result<(), Fail> {
 }
 
 #[test]
+fn each_letter_stands_for_its_ten_thousands(rt: HostRuntime) {
+    let letters: [(u8, u32); 24] = [
+        (b'A', 10),
+        (b'B', 11),
+        (b'C', 12),
+        (b'D', 13),
+        (b'E', 14),
+        (b'F', 15),
+        (b'G', 16),
+        (b'H', 17),
+        (b'J', 18),
+        (b'K', 19),
+        (b'L', 20),
+        (b'M', 21),
+        (b'N', 22),
+        (b'P', 23),
+        (b'Q', 24),
+        (b'R', 25),
+        (b'S', 26),
+        (b'T', 27),
+        (b'U', 28),
+        (b'V', 29),
+        (b'W', 30),
+        (b'X', 31),
+        (b'Y', 32),
+        (b'Z', 33),
+    ];
+    for &(letter, tens) in letters.iter() {
+        let line1 = with(VANGUARD1, 3, &[letter], b'3');
+        let line2 = with(VANGUARD2, 3, &[letter], b'7');
+        let number = elements(&line1, &line2, &rt).number();
+        assert_eq!(rt; number % 10_000, 5, "{tens}");
+        assert_eq!(rt; number / 10_000, tens, "{tens}");
+    }
+}
+
+#[test]
 fn epochs_are_whole_nanoseconds(rt: HostRuntime) -> Result<(), Fail> {
     // The year and the day, the check digit, and the nanoseconds from 2000-01-01T12:00:00 UTC.
     let epochs: [(&[u8], u8, i64); 9] = [
