@@ -68,7 +68,11 @@ fn ranges_have_their_ends(rt: HostRuntime) {
     assert!(rt; is_inclination(Decimal::whole(180)), "180 degrees");
     assert!(rt; !is_inclination(Decimal::of_scaled(1_800_001, 4)), "more");
     assert!(rt;
-        is_angle(Decimal::whole(-360)) && !is_angle(Decimal::whole(361)),
-        "one turn"
+        is_inclination(zero) && !is_inclination(Decimal::of_scaled(-1, 18)),
+        "none and less"
     );
+    let (turn, more) = (Decimal::whole(360), Decimal::of_scaled(3_600_001, 4));
+    let (back, less) = (Decimal::whole(-360), Decimal::of_scaled(-3_600_001, 4));
+    assert!(rt; is_angle(turn) && is_angle(back), "one turn");
+    assert!(rt; !is_angle(more) && !is_angle(less), "more than a turn");
 }

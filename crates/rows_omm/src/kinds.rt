@@ -4,7 +4,7 @@ use crate::lines::{fault_parts, with};
 use std::test::Fail;
 
 /// Lines of all kinds.
-const ROWS: [(usize, &str, &str, &str, u32); 24] = [
+const ROWS: [(usize, &str, &str, &str, u32); 33] = [
     (
         14,
         "SEMI_MAJOR_AXIS = 6730",
@@ -53,6 +53,15 @@ const ROWS: [(usize, &str, &str, &str, u32); 24] = [
     (2, "= X", "line", "", 2),
     (2, "BTERM = 1", "unsupported", "BTERM", 0),
     (2, "AGOM = 1", "unsupported", "AGOM", 0),
+    (2, "AZ_09 = X", "", "", 0),
+    (2, "A/B = X", "line", "", 2),
+    (2, "A:B = X", "line", "", 2),
+    (2, "A@B = X", "line", "", 2),
+    (2, "A[B = X", "line", "", 2),
+    (2, "A^B = X", "line", "", 2),
+    (2, "A`B = X", "line", "", 2),
+    (2, "\rX = 1", "line", "", 2),
+    (2, "X\r= 1", "line", "", 2),
 ];
 
 #[test]

@@ -2,11 +2,15 @@
 #![tactic(auto)]
 
 #[cfg(test)]
+mod beginnings;
+#[cfg(test)]
 mod kinds;
 #[cfg(test)]
 mod lines;
 #[cfg(test)]
 mod numbers;
+#[cfg(test)]
+mod order;
 #[cfg(test)]
 mod prefixes;
 #[cfg(test)]

@@ -4,10 +4,21 @@ use crate::lines::{fault_parts, with};
 use std::test::Fail;
 
 /// Ranges, and the order of faults.
-const ROWS: [(usize, &str, &str, &str, u32); 14] = [
+const ROWS: [(usize, &str, &str, &str, u32); 21] = [
+    (16, "INCLINATION = 0", "", "", 0),
     (17, "RA_OF_ASC_NODE = -360", "", "", 0),
+    (17, "RA_OF_ASC_NODE = 360", "", "", 0),
     (17, "RA_OF_ASC_NODE = 360.1", "value", "RA_OF_ASC_NODE", 0),
+    (17, "RA_OF_ASC_NODE = -360.1", "value", "RA_OF_ASC_NODE", 0),
+    (18, "ARG_OF_PERICENTER = -360", "", "", 0),
     (18, "ARG_OF_PERICENTER = 360", "", "", 0),
+    (
+        18,
+        "ARG_OF_PERICENTER = 361",
+        "value",
+        "ARG_OF_PERICENTER",
+        0,
+    ),
     (
         18,
         "ARG_OF_PERICENTER = -360.000001",
@@ -15,7 +26,9 @@ const ROWS: [(usize, &str, &str, &str, u32); 14] = [
         "ARG_OF_PERICENTER",
         0,
     ),
-    (19, "MEAN_ANOMALY = -1", "", "", 0),
+    (19, "MEAN_ANOMALY = -360", "", "", 0),
+    (19, "MEAN_ANOMALY = 360", "", "", 0),
+    (19, "MEAN_ANOMALY = -361", "value", "MEAN_ANOMALY", 0),
     (19, "MEAN_ANOMALY = 361", "value", "MEAN_ANOMALY", 0),
     (19, "", "missing", "MEAN_ANOMALY", 0),
     (11, "BSTAR = 1e3 [1/ER]", "", "", 0),
