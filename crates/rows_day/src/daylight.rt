@@ -2,7 +2,7 @@ use crate::calls::{run_line, words_of, written_by};
 use outside_io::{MemorySink, NeverFailShelf, NeverFailSink};
 use sgp4_model::{Mark, Span};
 use std::test::Fail;
-use top_call::{DayResult, Outcome, Product, run};
+use top_call::{DayResult, Outcome, Product, run_for_nobody};
 
 /// An hour in ticks.
 const HOUR: u64 = 36_000_000;
@@ -108,7 +108,7 @@ fn over_what_never_fails_a_run_is_done(rt: HostRuntime) -> Result<(), Fail> {
         let words = words_of(alloc, line)?;
         let mut shelf = NeverFailShelf::make(alloc)?;
         let mut out = NeverFailSink::make();
-        let outcome = run(alloc, words.as_slice(), &mut shelf, &mut out);
+        let outcome = run_for_nobody(alloc, words.as_slice(), &mut shelf, &mut out);
         let is_done = match &outcome {
             Outcome::Done { .. } => true,
             _ => false,

@@ -74,14 +74,16 @@ pub fn run<S: Shelf, K: Sink>(alloc: Global, words: &[Text], shelf: &mut S, out:
 }
 
 /// A run over a shelf and an output that never fail: words that make a request, of which each file is a catalogue, are
-/// done, or want memory.
+/// done, or want memory. A product is that of the words.
 pub fn run_for_nobody(
     alloc: Global,
     words: &[Text],
     shelf: &mut NeverFailShelf,
     out: &mut NeverFailSink,
 ) -> Outcome
-    ensures { (request : Request) → words_value words.now ≡ Ok request
+    ensures certificate { (product : Product) → result ≡ Outcome.Done product
+        → IsProductOf (λ name. Some (supplied shelf.old.files name)) words.now product }
+    ensures completeness { (request : Request) → words_value words.now ≡ Ok request
         → AreCatalogues (λ name. Some (supplied shelf.old.files name)) words.now → IsDoneOrWant result }
 {
     run(alloc, words, shelf, out)

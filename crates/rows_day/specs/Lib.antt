@@ -1,0 +1,5 @@
+pub mod SmallCauses
+pub mod SmallCounted
+pub mod SmallOutputs
+pub mod SmallResolved
+pub mod SmallStatuses

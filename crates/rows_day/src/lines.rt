@@ -1,0 +1,88 @@
+use crate::calls::words_of;
+use outside_io::{MemoryShelf, MemorySink};
+use std::alloc::Global;
+use std::test::Fail;
+use top_call::{run, status};
+
+/// A published set, as a file.
+const VANGUARD: &[u8] =
+    b"1 00005U 58002B   00179.78495062  .00000023  00000-0  28098-4 0  4753\n2 00005  34.2682 348.7242 1859667 331.7664  19.3264 10.82419157413667\n";
+
+/// What the words of a line write over a shelf with that file as `a` and an empty one as `b`, into an output whose put of
+/// this number fails; and the exit status.
+fn written_by(alloc: Global, line: &[u8], failing: u64) -> Result<(MemorySink, u8), Fail> {
+    let words = words_of(alloc, line)?;
+    let mut shelf = MemoryShelf::make(alloc)?;
+    shelf.add(b"a", VANGUARD)?;
+    shelf.add(b"b", b"")?;
+    let mut out = MemorySink::make(alloc, 1000)?;
+    out.fail_at(failing)?;
+    let outcome = run(alloc, words.as_slice(), &mut shelf, &mut out);
+    Ok((out, status(&outcome)))
+}
+
+#[test]
+fn each_line_is_one_put(rt: HostRuntime) -> Result<(), Fail> {
+    // Lines of words, how many lines they write, and the statuses of a run and of one that is cut off.
+    let rows: [(&[u8], usize, u8, u8); 11] = [
+        (
+            b"day --lat=90 --lon=0 --start=2000-06-21T00:00:00Z --end=2000-06-21T01:00:00Z --res=1",
+            4,
+            0,
+            8,
+        ),
+        (
+            b"day --lat=0 --lon=0 --start=2000-06-21T00:00:00Z --end=2000-06-22T00:00:00Z --res=1",
+            8,
+            0,
+            8,
+        ),
+        (b"show --catalogue=a --start=2000-06-28T00:00:00Z", 3, 0, 8),
+        (
+            b"locate --catalogue=a --number=5 --at=2000-06-27T18:50:19.733568Z",
+            7,
+            0,
+            8,
+        ),
+        (
+            b"locate --catalogue=a --number=6 --at=2000-06-27T18:50:19.733568Z",
+            4,
+            1,
+            8,
+        ),
+        (
+            b"locate --catalogue=a --number=5 --at=2000-07-27T18:50:19.733568Z",
+            4,
+            1,
+            8,
+        ),
+        (b"locate", 1, 2, 2),
+        (b"show --catalogue=a --start=x", 1, 3, 3),
+        (b"show --catalogue=b --start=2000-06-28T00:00:00Z", 1, 4, 4),
+        (
+            b"locate --catalogue=b --number=5 --at=2000-06-28T00:00:00Z",
+            1,
+            4,
+            4,
+        ),
+        (b"show --catalogue=c --start=2000-06-28T00:00:00Z", 1, 6, 6),
+    ];
+    for (row, &(line, count, whole, cut)) in rows.iter().enumerate() {
+        let (full, found) = written_by(rt.alloc(), line, 0)?;
+        assert_eq!(rt; found, whole, "row {row}");
+        let mut wanted = Vec::new(rt.alloc());
+        let mut lines = 0usize;
+        for text in full.written().split_inclusive(|byte| *byte == b'\n') {
+            lines = lines.saturating_add(1);
+            let (out, found) = written_by(rt.alloc(), line, lines as u64)?;
+            let before = wanted.len();
+            wanted.extend_from_slice(&text[..text.len() / 2])?;
+            assert_eq!(rt; out.written(), wanted.as_slice(), "row {row}, put {lines}");
+            assert_eq!(rt; found, cut, "row {row}, put {lines}");
+            wanted.truncate(before);
+            wanted.extend_from_slice(text)?;
+        }
+        assert_eq!(rt; lines, count, "row {row}");
+    }
+    Ok(())
+}
