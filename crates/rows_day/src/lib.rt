@@ -14,6 +14,8 @@ mod daylight;
 #[cfg(test)]
 mod faults;
 #[cfg(test)]
+mod given;
+#[cfg(test)]
 mod lines;
 #[cfg(test)]
 mod refusals;

@@ -12,13 +12,14 @@ fn is_near(edge: Edge, published: (i64, i64)) -> bool {
         && edge.high.saturating_sub(edge.low) <= 10_000
 }
 
-/// Whether this is found near the published position, 7022.46529266, -1400.08296755 and 0.03995155 km.
-fn is_published(found: &Found) -> bool {
+/// A published position, each coordinate between two whole numbers of millimetres.
+type Published = [(i64, i64); 3];
+
+/// Whether this is found near the published position.
+fn is_published(found: &Found, published: &Published) -> bool {
     match found {
         Found::Inside { x, y, z, .. } => {
-            is_near(*x, (7_022_465_292, 7_022_465_293))
-                && is_near(*y, (-1_400_082_968, -1_400_082_967))
-                && is_near(*z, (39_951, 39_952))
+            is_near(*x, published[0]) && is_near(*y, published[1]) && is_near(*z, published[2])
         }
         Found::Missing => false,
         Found::Refused { .. } => false,
@@ -27,27 +28,49 @@ fn is_published(found: &Found) -> bool {
 }
 
 /// Whether the product is the published position.
-fn is_located(product: &Product) -> bool {
+fn is_located(product: &Product, published: &Published) -> bool {
     match product {
-        Product::Located(answer) => is_published(&answer.found),
+        Product::Located(answer) => is_published(&answer.found, published),
         Product::Day(_) => false,
         Product::Shown(_) => false,
     }
 }
 
 #[test]
-fn the_published_position_is_found_at_the_epoch(rt: HostRuntime) -> Result<(), Fail> {
-    let line = b"locate --catalogue=a --number=5 --at=2000-06-27T18:50:19.733568Z";
-    let mut out = MemorySink::make(rt.alloc(), 1000)?;
-    let outcome = run_over(rt.alloc(), line, VANGUARD, &mut out)?;
-    assert_eq!(rt; status(&outcome), 0);
-    let head = b"PASSLOCATE 1\nAT 2000-06-27T18:50:19.733568000Z\nSAT 5 OK -\nX 70224";
-    assert!(rt; out.written().starts_with(head));
-    assert!(rt; out.written().ends_with(b"\nEND\n"));
-    let located = match &outcome {
-        Outcome::Done { product } => is_located(product),
-        _ => false,
-    };
-    assert!(rt; located);
+fn published_positions_are_found(rt: HostRuntime) -> Result<(), Fail> {
+    // The words, the first bytes that are printed, and the position: 7022.46529266, -1400.08296755 and 0.03995155 km at the
+    // epoch, -9060.47373569, 4658.70952502 and 813.68673153 km three days later.
+    let rows: [(&[u8], &[u8], Published); 2] = [
+        (
+            b"locate --catalogue=a --number=5 --at=2000-06-27T18:50:19.733568Z",
+            b"PASSLOCATE 1\nAT 2000-06-27T18:50:19.733568000Z\nSAT 5 OK -\nX 70224",
+            [
+                (7_022_465_292, 7_022_465_293),
+                (-1_400_082_968, -1_400_082_967),
+                (39_951, 39_952),
+            ],
+        ),
+        (
+            b"locate --catalogue=a --number=5 --at=2000-06-30T18:50:19.733568Z",
+            b"PASSLOCATE 1\nAT 2000-06-30T18:50:19.733568000Z\nSAT 5 OK -\nX -90604",
+            [
+                (-9_060_473_736, -9_060_473_735),
+                (4_658_709_525, 4_658_709_526),
+                (813_686_731, 813_686_732),
+            ],
+        ),
+    ];
+    for (row, (line, head, published)) in rows.iter().enumerate() {
+        let mut out = MemorySink::make(rt.alloc(), 1000)?;
+        let outcome = run_over(rt.alloc(), line, VANGUARD, &mut out)?;
+        assert_eq!(rt; status(&outcome), 0, "row {row}");
+        assert!(rt; out.written().starts_with(head), "row {row}");
+        assert!(rt; out.written().ends_with(b"\nEND\n"), "row {row}");
+        let located = match &outcome {
+            Outcome::Done { product } => is_located(product, published),
+            _ => false,
+        };
+        assert!(rt; located, "row {row}");
+    }
     Ok(())
 }

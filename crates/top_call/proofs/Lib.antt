@@ -1,3 +1,4 @@
+mod EndedLemmas
 mod FileLemmas
 mod InsideLemmas
 mod PrintedLemmas

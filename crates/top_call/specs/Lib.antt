@@ -1,5 +1,6 @@
 pub mod Causes
 pub mod Day
+pub mod Ended
 pub mod Files
 pub mod Located
 pub mod Outcome

@@ -2,6 +2,7 @@
 #![tactic(auto)]
 
 mod day;
+mod given;
 mod load;
 mod located;
 mod outcome;
@@ -14,6 +15,7 @@ mod top;
 mod track;
 
 pub use day::DayResult;
+pub use given::run_given;
 pub use outcome::{Outcome, Product, status};
 pub use sat_locate::{Edge, Found, LocAnswer};
 pub use top::{run, run_for_nobody};
