@@ -1,5 +1,6 @@
 -- The small cases, one by one.
-use Rattle.std.proofs.Common.{arith, ints, ◌≡◌, ℕ, zero, suc, ◌+◌, ◌≤◌, List, [], ◌∷◌, length, take, Some, refl, pos, codes}
+use Rattle.std.proofs.Common.{arith, ◌≡◌, ℕ, zero, suc, ◌+◌, ◌≤◌, List, [], ◌∷◌, length, take, Some, refl, pos, codes}
+use Rattle.std.proofs.lemmas.Int.{ints}
 use Rattle.std.specs.Prelude.{Ok}
 use Rattle.exact.proofs.Integers.{of_int_le, le_of_int}
 use Rattle.exact.specs.Rational.{of_int}
