@@ -203,7 +203,7 @@ fn values_end_at_their_ranges(rt: HostRuntime) -> Result<(), Fail> {
         let line = with(VANGUARD1, 19, text, last);
         assert_eq!(rt; read_pair(&line, VANGUARD2).err(), fault, "day {text:?}");
     }
-    let values: [(usize, &[u8], u8, Option<TleFault>); 15] = [
+    let values: [(usize, &[u8], u8, Option<TleFault>); 11] = [
         (9, b"180.0000", b'1', None),
         (9, b"180.0001", b'2', of_range(2, 9)),
         (18, b"360.0000", b'6', None),
@@ -215,30 +215,6 @@ fn values_end_at_their_ranges(rt: HostRuntime) -> Result<(), Fail> {
         (53, b" 0.00000000", b'9', of_range(2, 53)),
         (53, b".0000000001", b'0', None),
         (53, b"99999999999", b'8', None),
-        (
-            9,
-            b"180.0001 360.0001 1859667 360.0001 360.0001  0.00000000",
-            b'9',
-            of_range(2, 9),
-        ),
-        (
-            9,
-            b" 34.2682 360.0001 1859667 360.0001 360.0001  0.00000000",
-            b'4',
-            of_range(2, 18),
-        ),
-        (
-            9,
-            b" 34.2682 348.7242 1859667 360.0001 360.0001  0.00000000",
-            b'4',
-            of_range(2, 35),
-        ),
-        (
-            9,
-            b" 34.2682 348.7242 1859667 331.7664 360.0001  0.00000000",
-            b'4',
-            of_range(2, 44),
-        ),
     ];
     for &(at, text, last, fault) in values.iter() {
         let line = with(VANGUARD2, at, text, last);
@@ -247,6 +223,38 @@ fn values_end_at_their_ranges(rt: HostRuntime) -> Result<(), Fail> {
             fault,
             "column {at}, {text:?}"
         );
+    }
+    Ok(())
+}
+
+#[test]
+fn the_lowest_value_out_of_its_range_is_the_first_fault(rt: HostRuntime) -> Result<(), Fail> {
+    // The columns 9 to 63 of line 2 with the values from one on out of their ranges, the check digit, and the fault.
+    let rows: [(&[u8], u8, Option<TleFault>); 4] = [
+        (
+            b"180.0001 360.0001 1859667 360.0001 360.0001  0.00000000",
+            b'9',
+            of_range(2, 9),
+        ),
+        (
+            b" 34.2682 360.0001 1859667 360.0001 360.0001  0.00000000",
+            b'4',
+            of_range(2, 18),
+        ),
+        (
+            b" 34.2682 348.7242 1859667 360.0001 360.0001  0.00000000",
+            b'4',
+            of_range(2, 35),
+        ),
+        (
+            b" 34.2682 348.7242 1859667 331.7664 360.0001  0.00000000",
+            b'4',
+            of_range(2, 44),
+        ),
+    ];
+    for &(text, last, fault) in rows.iter() {
+        let line = with(VANGUARD2, 9, text, last);
+        assert_eq!(rt; read_pair(VANGUARD1, &line).err(), fault, "{text:?}");
     }
     Ok(())
 }
