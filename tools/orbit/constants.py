@@ -4,21 +4,11 @@
 They come from tools/equations/reference.py, which shares nothing with the program, to 50 digits; a number is given by the
 whole numbers of units of 2^-48 next to it. Run it at the top of the repository: python3 tools/orbit/constants.py
 """
-import sys
 
 import mpmath as mp
 
-sys.path.insert(0, "tools/equations")
-from reference import Satellite  # noqa: E402
+from shared import Satellite, scaled_constants
 
-mp.mp.dps = 50
-POWERS = [
-    "i c si e w0 o0 m0 bstar a eta con41 c5 xmcof xlcof aycof delmo sin_m0",
-    "n0 mdot wdot odot c1 c4 omgcof t2cof",
-    "d2 nodecf t3cof",
-    "d3 t4cof",
-    "d4 t5cof",
-]
 # motion (revolutions per day), eccentricity, inclination, node, argument of perigee, mean anomaly, B*
 SETS = [
     ("10.82419157", "0.1859667", "34.2682", "348.7242", "331.7664", "19.3264", "0.000028098"),
@@ -63,8 +53,7 @@ def main():
         for numbers in SETS:
             satellite = Satellite(*numbers)
             assert satellite.period_minutes() < 225 and satellite.perigee_km() >= 300
-            kept = satellite.kept()
-            fields = [units(kept[name] * 16384**k) for k, names in enumerate(POWERS) for name in names.split()]
+            fields = [units(number) for number in scaled_constants(satellite)]
             out.write("    [%s],\n" % ", ".join(fields))
         out.write("];\n")
 

@@ -4,29 +4,14 @@
 All come from tools/equations/reference.py, which shares nothing with the program, to 50 digits; a number is given by the
 whole number of units of 2^-48 below it. Run it at the top of the repository: python3 tools/orbit/positions.py
 """
-import sys
 import textwrap
 
 import mpmath as mp
 
-sys.path.insert(0, "tools/equations")
-from reference import Satellite  # noqa: E402
+from shared import FIVE_SETS, Satellite, scaled_constants
 
-mp.mp.dps = 50
-POWERS = [
-    "i c si e w0 o0 m0 bstar a eta con41 c5 xmcof xlcof aycof delmo sin_m0",
-    "n0 mdot wdot odot c1 c4 omgcof t2cof",
-    "d2 nodecf t3cof",
-    "d3 t4cof",
-    "d4 t5cof",
-]
 # motion (revolutions per day), eccentricity, inclination, node, argument of perigee, mean anomaly, B*
-SETS = [
-    ("15.48919393", "0.0006703", "51.6416", "247.4627", "130.5360", "325.0288", "0.00011606"),
-    ("14.19552001", "0.0011476", "98.7000", "12.3456", "88.1234", "271.9876", "0.000043"),
-    ("11.25000000", "0.1200000", "63.4349", "300.5000", "270.0000", "15.2500", "-0.001"),
-    ("15.70000000", "0.0000000", "0.0000", "0.0000", "0.0000", "0.0000", "0.001"),
-    ("7.00000000", "0.1999999", "174.9999", "359.9999", "180.0000", "90.0000", "0.0005"),
+SETS = FIVE_SETS + [
     ("15.80000000", "0.0000100", "28.5000", "90.0000", "0.0000", "180.0000", "0.0002"),
     ("12.62256100", "0.0000001", "99.0000", "180.0000", "45.0000", "45.0000", "0"),
     ("6.50000000", "0.0500000", "55.0000", "222.2222", "333.3333", "11.1111", "-0.0000001"),
@@ -66,8 +51,7 @@ def main():
         for numbers in SETS:
             satellite = Satellite(*numbers)
             assert satellite.perigee_km() >= 300 and satellite.period_minutes() < 225
-            kept = satellite.kept()
-            fields = [units(kept[name] * 16384**k) for k, names in enumerate(POWERS) for name in names.split()]
+            fields = [units(number) for number in scaled_constants(satellite)]
             out.write("    // revolutions per day %s, eccentricity %s, inclination %s\n%s,\n" % (*numbers[:3], lines(fields)))
             for minutes in MINUTES:
                 _, mean, _, vector = satellite.at(minutes)
