@@ -1,0 +1,126 @@
+#!/usr/bin/env bash
+# Runs the built program as a user does, over real arguments, files and outputs, and compares what it prints and the
+# status that it ends with. What is checked here stands in no contract: that the words are the process's arguments, that
+# a name opens the file of that name, that standard output takes the bytes, and that `main` ends with the status.
+#
+#     tools/program/check.sh [PROGRAM]
+#
+# It prints each row that fails and a count, and ends with status 1 where a row fails.
+top=$(cd "$(dirname "${BASH_SOURCE[0]}")/../.." && pwd) || exit 2
+# (without words the script at the top builds the program, where that is still to be done, and ends with status 2)
+[ $# -gt 0 ] || "$top/passplan" >/dev/null
+program=$(realpath "${1:-$top/crates/passplan/out/passplan}") || exit 2
+[ -x "$program" ] || { echo "check.sh: no program at $program" >&2; exit 2; }
+folder=$(mktemp -d) || exit 2
+trap 'rm -rf "$folder"' EXIT
+cd "$folder" || exit 2
+
+line1='1 00005U 58002B   00179.78495062  .00000023  00000-0  28098-4 0  4753'
+line2='2 00005  34.2682 348.7242 1859667 331.7664  19.3264 10.82419157413667'
+other1='1 25544U 98067A   08264.51782528 -.00002182  00000-0 -11606-4 0  2927'
+other2='2 25544  51.6416 247.4627 0006703 130.5360 325.0288 15.72125391563537'
+mkdir sub 'with blank'
+printf '%s\r\n' "$line1" "$line2" >a
+printf '%s\n' 'ISS (ZARYA)' "$other1" "$other2" >sub/b
+cp sub/b 'with blank/b=c'
+printf ' \r\n\n\t\n' >blank
+printf '%s\n' "$line1" >odd
+printf '%s\n' "$line1" "${line2%7}6" >check
+for _ in $(seq 16385); do printf '%s\n' "$line1" "$line2"; done >many
+head -c 16777217 /dev/zero >long
+head -c 16777216 /dev/zero | tr '\0' '\n' >full
+
+rows=0
+failed=0
+# fails NAME WANTED FOUND
+fails() {
+  failed=$((failed + 1))
+  printf 'row %s failed\n  wanted: %q\n  found:  %q\n' "$1" "$2" "$3"
+}
+# row STATUS OUTPUT WORDS..   the program of these words ends so, prints this and nothing on standard error
+row() {
+  local wanted="$1 $2" found
+  shift 2
+  rows=$((rows + 1))
+  "$program" "$@" >out 2>err
+  found="$? $(cat out; printf .)"
+  found=${found%.}
+  [ "$found" = "$wanted" ] || fails "$rows ($*)" "$wanted" "$found"
+  [ ! -s err ] || fails "$rows ($*): standard error" '' "$(cat err)"
+}
+# heads STATUS LINES WORDS..   the same, but only these first lines of the output are compared
+heads() {
+  local wanted="$1 $2" found count
+  count=$(printf '%s' "$2" | wc -l)
+  shift 2
+  rows=$((rows + 1))
+  "$program" "$@" >out 2>err
+  found="$? $(head -n "$count" out; printf .)"
+  found=${found%.}
+  [ "$found" = "$wanted" ] || fails "$rows ($*)" "$wanted" "$found"
+}
+# cut STATUS WORDS..   the program ends so over a full device
+cut() {
+  local wanted=$1 found
+  shift
+  rows=$((rows + 1))
+  "$program" "$@" >/dev/full 2>err
+  found=$?
+  [ "$found" = "$wanted" ] || fails "$rows ($*) over a full device" "$wanted" "$found"
+}
+
+# day_of LETTER START END RESOLUTION   the lines of one span, and a point that keeps the last line feed
+day_of() {
+  printf 'PASSDAY 1\nWINDOW %s %s %s\n%s %s %s\nEND\n.' "$2" "$3" "$4" "$1" "$2" "$3"
+}
+june=(--start=2000-06-21T00:00:00Z --end=2000-06-21T01:00:00Z)
+light=$(day_of L 2000-06-21T00:00:00.0000Z 2000-06-21T01:00:00.0000Z 1)
+night=$(day_of N 2000-06-21T00:00:00.0000Z 2000-06-21T01:00:00.0000Z 1)
+noon=$(day_of L 2000-01-01T12:00:00.0000Z 2000-01-01T13:00:00.0000Z 60)
+row 0 "${light%.}" day --lat=90 --lon=0 "${june[@]}" --res=1
+row 0 "${night%.}" day --res 1 "${june[@]}" --lon 0 --lat=-90
+row 0 "${noon%.}" day --lat 0 --lon 0 --start 2000-01-01T12:00:00Z --end 2000-01-01T13:00:00Z --res 60
+
+shown='SET 5 2000-06-27T18:50:19.733568000Z 10.82419157 0.1859667 34.2682 348.7242 331.7664 19.3264 0.000028098 -'
+station='SET 25544 2008-09-20T12:25:40.104192000Z 15.72125391 0.0006703 51.6416 247.4627 130.536 325.0288 -0.000011606 ISS (ZARYA)'
+row 0 "PASSSHOW 1"$'\n'"$shown"$'\n'"END"$'\n' show --catalogue=a --start=2000-06-28T00:00:00Z
+row 0 "PASSSHOW 1"$'\n'"$station"$'\n'"END"$'\n' show --start=2000-06-28T00:00:00Z --catalogue sub/b
+row 0 "PASSSHOW 1"$'\n'"$station"$'\n'"END"$'\n' show --catalogue='with blank/b=c' --start=2000-06-28T00:00:00Z
+row 0 "PASSSHOW 1"$'\n'"$shown"$'\n'"END"$'\n' show --catalogue="$folder/sub/../a" --start=2000-06-28T00:00:00Z
+
+at=2000-06-27T18:50:19.733568Z
+heads 0 $'PASSLOCATE 1\nAT 2000-06-27T18:50:19.733568000Z\nSAT 5 OK -\n' locate --catalogue=a --number=5 --at=$at
+row 1 $'PASSLOCATE 1\nAT 2000-06-27T18:50:19.733568000Z\nMISSING 6\nEND\n' locate --catalogue=a --number=6 --at=$at
+row 1 $'PASSLOCATE 1\nAT 2000-06-27T18:50:19.733568000Z\nSAT 25544 FAR ISS (ZARYA)\nEND\n' \
+  locate --catalogue=sub/b --number=25544 --at=$at
+
+row 2 $'error usage nocommand\n'
+row 2 $'error usage command\n' --help
+row 2 $'error usage command\n' ''
+row 2 $'error usage command\n' 'day --lat=90'
+row 2 $'error usage missing lat\n' day
+row 2 $'error usage word 2\n' day --lat -90 --lon=0 "${june[@]}" --res=1
+row 2 $'error usage word 3\n' day --lat=1 $'--lon=\xff'
+row 2 $'error usage word 2\n' show --catalogue= --start=2000-06-28T00:00:00Z
+row 3 $'error window order\n' day --lat=90 --lon=0 --start=2000-06-21T00:00:00Z --end=2000-06-21T00:00:00Z --res=1
+row 3 $'error window resolution\n' day --lat=90 --lon=0 "${june[@]}" --res=61
+row 4 $'error catalogue empty\n' show --catalogue=blank --start=2000-06-28T00:00:00Z
+row 4 $'error catalogue empty\n' show --catalogue=full --start=2000-06-28T00:00:00Z
+row 4 $'error catalogue empty\n' show --catalogue=/dev/null --start=2000-06-28T00:00:00Z
+row 4 $'error catalogue odd 1\n' locate --catalogue=odd --number=5 --at=$at
+row 4 $'error catalogue set 1 tle check 2 6 7\n' show --catalogue=check --start=2000-06-28T00:00:00Z
+row 4 $'error catalogue toomany\n' show --catalogue=many --start=2000-06-28T00:00:00Z
+row 6 $'error read\n' show --catalogue=absent --start=2000-06-28T00:00:00Z
+row 6 $'error read\n' show --catalogue=a/b --start=2000-06-28T00:00:00Z
+row 6 $'error read\n' show --catalogue=sub --start=2000-06-28T00:00:00Z
+row 7 $'error toolong\n' show --catalogue=long --start=2000-06-28T00:00:00Z
+row 7 $'error toolong\n' locate --catalogue=/dev/zero --number=5 --at=$at
+
+cut 8 day --lat=90 --lon=0 "${june[@]}" --res=1
+cut 8 show --catalogue=a --start=2000-06-28T00:00:00Z
+cut 8 locate --catalogue=a --number=6 --at=$at
+cut 2 --help
+cut 6 show --catalogue=absent --start=2000-06-28T00:00:00Z
+
+echo "check.sh: $rows rows, $failed failed"
+[ "$failed" -eq 0 ]
