@@ -1,5 +1,6 @@
 pub mod BorderLemmas
 pub mod FlatLemmas
+pub mod InRangeLemmas
 pub mod KeyLemmas
 pub mod MaskLemmas
 pub mod ReadLemmas

@@ -1,4 +1,5 @@
 pub mod Fields
+pub mod InRange
 pub mod Keys
 pub mod MaskFields
 pub mod MaskTests

@@ -4,6 +4,7 @@
 mod border;
 mod fault;
 mod field;
+pub mod laws;
 mod mask;
 mod mask_field;
 mod read;

@@ -1,0 +1,2 @@
+mod SetCases
+mod WindowCases
