@@ -44,7 +44,7 @@ impl<R: Files> FileShelf<R> {
 impl<R: Files> Shelf for FileShelf<R> {
     ghost use Rattle.std.specs.Prelude.{◌≡◌, ◌≤◌, ◌↔◌, None, vec_len, IfOk, OnOk, IsErrOf};
     ghost use Rattle.outside_io.specs.Loads.{counts_after};
-    ghost use Rattle.outside_io.specs.Counts.{Rose};
+    ghost use Rattle.outside_io.specs.Counts.{IsKept, RoseAlone};
     ghost use Rattle.outside_io.specs.Held.{IsTold, IsLonger};
 
     ghost held = { λ _ _. None };

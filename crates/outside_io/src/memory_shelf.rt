@@ -63,7 +63,7 @@ impl Shelf for MemoryShelf {
     ghost use Rattle.std.specs.Prelude.{◌≡◌, ◌≤◌, ◌<◌, ◌↔◌, Some, vec_len, IfOk, OnOk, IsErrOf};
     ghost use Rattle.std.specs.FinMap as map;
     ghost use Rattle.outside_io.specs.Holding.{LoadFails, after_load};
-    ghost use Rattle.outside_io.specs.Counts.{Rose};
+    ghost use Rattle.outside_io.specs.Counts.{IsKept, RoseAlone};
     ghost use Rattle.outside_io.specs.Held.{IsTold, IsLonger};
 
     ghost held = { λ s name. map.get s.files name };

@@ -47,7 +47,7 @@ impl NeverFailShelf {
 impl Shelf for NeverFailShelf {
     ghost use Rattle.std.specs.Prelude.{◌≡◌, ◌≤◌, ◌<◌, ◌↔◌, Some, length, vec_len, IfOk, OnOk, IsErrOf};
     ghost use Rattle.outside_io.specs.Supply.{supplied, supply_after};
-    ghost use Rattle.outside_io.specs.Counts.{Rose};
+    ghost use Rattle.outside_io.specs.Counts.{IsKept, RoseAlone};
     ghost use Rattle.outside_io.specs.Held.{IsTold, IsLonger};
 
     ghost held = { λ s name. Some (supplied s.files name) };

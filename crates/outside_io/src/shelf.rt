@@ -1,6 +1,6 @@
 ghost use Rattle.std.specs.Prelude.{◌≡◌, ◌≤◌, ◌↔◌, List, ℕ, vec_len, IfOk, OnOk, IsErrOf};
 ghost use Rattle.std.specs.declared.option.Option.{Option};
-ghost use Rattle.outside_io.specs.Counts.{Rose};
+ghost use Rattle.outside_io.specs.Counts.{IsKept, RoseAlone};
 ghost use Rattle.outside_io.specs.Held.{IsTold, IsLonger};
 
 use std::alloc::Global;
@@ -8,11 +8,11 @@ use std::alloc::Global;
 /// Why a load gave no bytes.
 #[derive(Clone, Copy, Debug, PartialEq, Eq)]
 pub enum LoadFault {
-    /// The file could not be read, and the count of faults rose.
+    /// The file could not be read, and the count of faults alone rose.
     Failed,
-    /// The file has more bytes than there was room for, and the count of such files rose.
+    /// The file has more bytes than there was room for, and the count of such files alone rose.
     TooLong,
-    /// There was no memory for the bytes.
+    /// There was no memory for the bytes, and no count changed.
     OutOfMemory,
 }
 
@@ -39,8 +39,9 @@ pub trait Shelf {
         ensures overs_kept { OnOk result (overs self.new ≡ overs self.old) }
         ensures faults_later { faults self.old ≤ faults self.new }
         ensures overs_later { overs self.old ≤ overs self.new }
-        ensures failed { IsErrOf result LoadFault.Failed → Rose (faults self.old) (faults self.new) }
-        ensures too_long { IsErrOf result LoadFault.TooLong → Rose (overs self.old) (overs self.new) }
+        ensures failed { IsErrOf result LoadFault.Failed → RoseAlone (faults self.old) (faults self.new) (overs self.old) (overs self.new) }
+        ensures too_long { IsErrOf result LoadFault.TooLong → RoseAlone (overs self.old) (overs self.new) (faults self.old) (faults self.new) }
+        ensures memory { IsErrOf result LoadFault.OutOfMemory → IsKept (faults self.old) (faults self.new) (overs self.old) (overs self.new) }
         ensures longer { IsErrOf result LoadFault.TooLong → IsLonger (held self.old name.now) room }
         ensures same_held { (other : List ℕ) → held self.new other ≡ held self.old other }
         ensures same_allows { (other : List ℕ) → allows self.new other ↔ allows self.old other };

@@ -1,7 +1,7 @@
 //! Tests of catalogues.
 #![tactic(auto)]
 
-ghost use Rattle.rows_catalogue.specs.SmallNames.{SmallNames};
+ghost use Rattle.rows_catalogue.specs.SmallNames.{SmallCatalogues, SmallNames};
 
 #[cfg(test)]
 mod adding;
@@ -27,4 +27,9 @@ mod texts;
 /// Texts that are names and texts that are not.
 pub fn small_names()
     ensures { SmallNames }
+{}
+
+/// Lists that are no catalogues.
+pub fn small_catalogues()
+    ensures { SmallCatalogues }
 {}

@@ -1,14 +1,18 @@
 -- The small cases, one by one.
-use Rattle.std.proofs.Common.{arith, ◌≡◌, ℕ, zero, suc, ◌+◌, ◌≤◌, List, [], ◌∷◌, length, take, Some, refl, pos, codes}
+use Rattle.std.proofs.Common.{arith, ◌≡◌, ap, sym, ◌∙◌, ℕ, zero, suc, ◌+◌, ◌≤◌, List, [], ◌∷◌, length, take, Some, refl, pos, codes}
 use Rattle.std.proofs.lemmas.Int.{ints}
-use Rattle.std.specs.Prelude.{Ok}
+use Rattle.std.specs.Prelude.{ℤ, Err, None, Ok}
+use Rattle.catalogue.specs.Choice.{chosen}
+use Rattle.catalogue.specs.Sets.{element_sets}
+use Rattle.catalogue.specs.TwoLineFile.{sets_of}
+use Rattle.catalogue.specs.declared.fault.CatFault.TheVariants.{Empty, TooMany}
 use Rattle.exact.proofs.Integers.{of_int_le, le_of_int}
 use Rattle.exact.specs.Rational.{of_int}
 use Rattle.pass_text.specs.Refusals.{read_line}
 use Rattle.pass_words.specs.Words.{words_value}
 use Rattle.pass_words.specs.declared.request.Request.{Request}
 use Rattle.top_call.specs.Day.{GrazesNowhereLong}
-use Rattle.rows_day.specs.SmallCauses.{SmallCauses}
+use Rattle.rows_day.specs.SmallCauses.{EmptyFiles, SmallCauses}
 use Rattle.rows_day.specs.SmallOutputs.{SmallProducts, SmallRefusals}
 use Rattle.rows_day.specs.SmallResolved.{SmallResolved, grazing_end}
 
@@ -82,4 +86,21 @@ small_causes = record {
   read = λ h. no_request h.1.1.request h.1.1.of_words;
   long = λ h. no_request h.named.1.request h.named.1.of_words;
   memory = tt;
+}
+
+-- an empty file is empty
+of_nothing : (at : ℤ) → chosen [] at ≡ Err Empty
+unfolding chosen element_sets sets_of
+of_nothing at = refl
+
+no_other : (bytes : List ℕ) (at : ℤ) → bytes ≡ [] → chosen bytes at ≡ Err TooMany → ⊥
+no_other bytes at told gives = let e = sym (ap (λ b. chosen b at) told ∙ of_nothing at) ∙ gives in cc
+
+pub empty_files : EmptyFiles
+empty_files = record {
+  held = λ at. record { bytes = []; told = refl; fits = omega arith; gives = of_nothing at };
+  untold = λ at h. let e = h.told in cc;
+  other = λ at h. no_other h.answer.bytes at h.answer.told h.answer.gives;
+  want = λ held at h. h.other refl;
+  short = λ words h. omega (arith, h.longer);
 }

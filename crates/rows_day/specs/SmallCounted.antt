@@ -7,7 +7,7 @@ use Rattle.top_call.specs.Shelf.{IsCounted}
 use Rattle.top_call.specs.declared.outcome.Outcome.TheVariants.{Done, Usage, BadWindow, BadCatalogue, ReadFault, TooLong, WriteFault, OutOfMemory}
 use Rattle.top_call.specs.declared.outcome.Product.TheVariants.{Shown}
 
--- faults rose where a file was not read, long files where one was too long; else no count changed, but for want of memory
+-- faults alone rose where a file was not read, long files alone where one was too long; else no count changed
 pub record SmallCounted : Type 0 where
   pub done : IsCounted (Done (Shown [])) 4 4 7 7
   pub done_fault : ¬ (IsCounted (Done (Shown [])) 4 5 7 7)
@@ -21,9 +21,13 @@ pub record SmallCounted : Type 0 where
   pub read : IsCounted ReadFault 4 5 7 7
   pub unread : ¬ (IsCounted ReadFault 4 4 7 7)
   pub other_rose : ¬ (IsCounted ReadFault 4 4 7 8)
+  pub both_rose : ¬ (IsCounted ReadFault 4 5 7 8)
   pub long : IsCounted TooLong 4 4 7 8
   pub short : ¬ (IsCounted TooLong 4 4 7 7)
   pub fault_rose : ¬ (IsCounted TooLong 4 5 7 7)
+  pub fault_beside : ¬ (IsCounted TooLong 4 5 7 8)
   pub cut_fault : ¬ (IsCounted (WriteFault (Shown [])) 4 5 7 7)
   pub cut_over : ¬ (IsCounted (WriteFault (Shown [])) 4 4 7 8)
-  pub memory : IsCounted OutOfMemory 4 5 7 8
+  pub memory : IsCounted OutOfMemory 4 4 7 7
+  pub memory_fault : ¬ (IsCounted OutOfMemory 4 5 7 7)
+  pub memory_over : ¬ (IsCounted OutOfMemory 4 4 7 8)

@@ -1,7 +1,7 @@
 //! Tests of the whole program but its `main`, and its definitions on small cases.
 #![tactic(auto)]
 
-ghost use Rattle.rows_day.specs.SmallCauses.{SmallCauses};
+ghost use Rattle.rows_day.specs.SmallCauses.{EmptyFiles, SmallCauses};
 ghost use Rattle.rows_day.specs.SmallCounted.{SmallCounted};
 ghost use Rattle.rows_day.specs.SmallOutputs.{SmallProducts, SmallRefusals};
 ghost use Rattle.rows_day.specs.SmallResolved.{SmallResolved};
@@ -48,4 +48,9 @@ pub fn small_resolved()
 /// Words that name no file, and what outcomes say of them.
 pub fn small_causes()
     ensures { SmallCauses }
+{}
+
+/// Empty files, and what outcomes say of them.
+pub fn empty_files()
+    ensures { EmptyFiles }
 {}

@@ -17,6 +17,10 @@ of_part word from = Show (record { word = word; from = from }) (pos 0)
 abbrev pub of_number : ℕ → Request
 of_number number = Locate (record { word = 2; from = 0 }) number (pos 0)
 
+-- the request for a satellite of a file that is named by the command
+abbrev pub named_by_command : Request
+named_by_command = Locate (record { word = 1; from = 0 }) 5 (pos 0)
+
 -- a name stands in a word behind the command and is not empty; a number is below 1,000,000,000
 pub record SmallRequests : Type 0 where
   pub whole_word : AreNamesIn small_words (of_part 2 0)
@@ -25,5 +29,6 @@ pub record SmallRequests : Type 0 where
   pub in_the_command : ¬ (AreNamesIn small_words (of_part 1 0))
   pub no_such_word : ¬ (AreNamesIn small_words (of_part 3 0))
   pub located : AreNamesIn small_words (of_number 5)
+  pub located_in_the_command : ¬ (AreNamesIn small_words named_by_command)
   pub greatest : IsInRange (of_number 999_999_999)
   pub too_great : ¬ (IsInRange (of_number 1_000_000_000))

@@ -128,7 +128,7 @@ done_or_want held words request outcome faults faults' overs overs' before after
     go (BadCatalogue fault) h cause counted written =
         let there = catalogues cause.name cause.instant cause.asks in
         absurd (ok-err there.0 fault (sym (same_answer _ _ _ _ cause.bad.answer there.1)))
-    go ReadFault h cause counted written = absurd (read cause.0 cause.1 counted)
+    go ReadFault h cause counted written = absurd (read cause.0 cause.1 counted.rose)
     go TooLong h cause counted written =
         let there = catalogues cause.name cause.named.0 cause.named.1 in
         absurd (not_longer _ there.1.bytes there.1.told there.1.fits cause.longer)
@@ -161,7 +161,7 @@ bad_or_want held words request outcome faults faults' overs overs' name instant 
     go (Usage fault) h counted done cut = absurd h
     go (BadWindow fault) h counted done cut = absurd h
     go (BadCatalogue other) h counted done cut = inl (ap BadCatalogue (err_inj (Err other) other fault refl (same_answer _ _ _ _ h.answer holds)))
-    go ReadFault h counted done cut = absurd (read counted)
+    go ReadFault h counted done cut = absurd (read counted.rose)
     go TooLong h counted done cut = absurd (not_longer _ holds.bytes holds.told holds.fits h)
     go (WriteFault product) h counted done cut = absurd (no_product product (cut product refl))
     go OutOfMemory h counted done cut = inr refl
@@ -189,7 +189,7 @@ long_or_want held words request outcome faults faults' overs overs' name bytes i
     go (Usage fault) h counted done cut = absurd h
     go (BadWindow fault) h counted done cut = absurd h
     go (BadCatalogue other) h counted done cut = absurd (not_loaded _ _ _ bytes told longer h.answer)
-    go ReadFault h counted done cut = absurd (read counted)
+    go ReadFault h counted done cut = absurd (read counted.rose)
     go TooLong h counted done cut = inl refl
     go (WriteFault product) h counted done cut = absurd (no_product product (cut product refl))
     go OutOfMemory h counted done cut = inr refl

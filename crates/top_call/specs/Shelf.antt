@@ -1,28 +1,23 @@
 -- What a run did to the counts of its shelf, and that the files of the words are at hand.
-use Rattle.std.specs.Prelude.{◌≡◌, ℕ, ℤ, List, ⊤, Ok}
+use Rattle.std.specs.Prelude.{ℕ, ℤ, List, Ok}
 use Rattle.std.specs.declared.option.Option.{Option}
 use Rattle.catalogue.specs.declared.entry.Entry.{Entry}
-use Rattle.outside_io.specs.Counts.{Rose}
+use Rattle.outside_io.specs.Counts.{IsKept, Rose, RoseAlone}
 use Rattle.top_call.specs.Files.{AsksCatalogue, Holds, IsNamed}
 use Rattle.top_call.specs.declared.outcome.Outcome.{Outcome}
 use Rattle.top_call.specs.declared.outcome.Outcome.TheVariants.{Done, Usage, BadWindow, BadCatalogue, ReadFault, TooLong, WriteFault, OutOfMemory}
 
--- both counts, of loads that failed and of files that were too long, are as they were
-pub record IsKept (faults faults_after overs overs_after : ℕ) : Type 0 where
-  pub no_fault : faults_after ≡ faults
-  pub no_over : overs_after ≡ overs
-
--- the counts by the outcome: that of faults rose where a file was not read, and that of long files where one was too long;
--- else both are as they were, but for want of memory, which says nothing
+-- the counts by the outcome: that of faults alone rose where a file was not read, and that of long files alone where one was
+-- too long; else both are as they were
 abbrev pub IsCounted : Outcome → ℕ → ℕ → ℕ → ℕ → Type 0
 IsCounted (Done product) faults faults_after overs overs_after = IsKept faults faults_after overs overs_after
 IsCounted (Usage fault) faults faults_after overs overs_after = IsKept faults faults_after overs overs_after
 IsCounted (BadWindow fault) faults faults_after overs overs_after = IsKept faults faults_after overs overs_after
 IsCounted (BadCatalogue fault) faults faults_after overs overs_after = IsKept faults faults_after overs overs_after
-IsCounted ReadFault faults faults_after overs overs_after = Rose faults faults_after
-IsCounted TooLong faults faults_after overs overs_after = Rose overs overs_after
+IsCounted ReadFault faults faults_after overs overs_after = RoseAlone faults faults_after overs overs_after
+IsCounted TooLong faults faults_after overs overs_after = RoseAlone overs overs_after faults faults_after
 IsCounted (WriteFault product) faults faults_after overs overs_after = IsKept faults faults_after overs overs_after
-IsCounted OutOfMemory faults faults_after overs overs_after = ⊤
+IsCounted OutOfMemory faults faults_after overs overs_after = IsKept faults faults_after overs overs_after
 
 -- no load of a file that the words name failed, by the shelf's counts of faults before and after
 abbrev pub AreRead : ℕ → ℕ → List (List ℕ) → Type 0

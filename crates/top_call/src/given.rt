@@ -24,7 +24,7 @@ pub fn run_given<E: Env, S: Shelf, K: Sink>(
     out: &mut K,
 ) -> ExitCode
     requires { (name : List ℕ) → S.allows shelf.old name }
-    ensures { IsEnded (S.held shelf.old) (K.faults out.old) (K.faults out.new) (K.written out.old) (K.written out.new) (exit_status result) }
+    ensures { IsEnded (S.held shelf.old) (S.faults shelf.old) (S.faults shelf.new) (S.overs shelf.old) (S.overs shelf.new) (K.faults out.old) (K.faults out.new) (K.written out.old) (K.written out.new) (exit_status result) }
 {
     match given_words(alloc, env) {
         Ok(words) => code_of(&run(alloc, &words, shelf, out)),

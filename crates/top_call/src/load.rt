@@ -1,9 +1,10 @@
 //! A catalogue from a file.
 ghost use Rattle.std.specs.Prelude.{◌≤◌, IfErr, IfOk, Ok, OnOk};
+ghost use Rattle.outside_io.specs.Counts.{IsKept};
 ghost use Rattle.top_call.specs.Causes.{IsFileOutcome};
 ghost use Rattle.top_call.specs.Files.{IsAnswerOf};
 ghost use Rattle.top_call.specs.Refused.{outcome_of};
-ghost use Rattle.top_call.specs.Shelf.{IsCounted, IsKept};
+ghost use Rattle.top_call.specs.Shelf.{IsCounted};
 
 use catalogue::{CatFault, Catalogue, read_catalogue};
 use elements::Instant;

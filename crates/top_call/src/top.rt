@@ -2,7 +2,7 @@
 ghost use Rattle.std.specs.Prelude.{◌≡◌, ◌↔◌, ◌≤◌, ◌<◌, ℕ, ℤ, List, length, Err, Ok, Some};
 ghost use Rattle.catalogue.specs.Place.{most_bytes};
 ghost use Rattle.catalogue.specs.declared.fault.CatFault.{CatFault};
-ghost use Rattle.outside_io.specs.Counts.{Rose};
+ghost use Rattle.outside_io.specs.Counts.{IsKept, Rose};
 ghost use Rattle.outside_io.specs.Supply.{supplied};
 ghost use Rattle.pass_words.specs.Ranges.{IsInRange, IsPlace};
 ghost use Rattle.pass_words.specs.Words.{words_value};
@@ -13,7 +13,7 @@ ghost use Rattle.pass_words.specs.declared.request.Request.{Request};
 ghost use Rattle.top_call.specs.Causes.{IsCaused, IsOutcomeOf, IsPlainOutcome};
 ghost use Rattle.top_call.specs.Files.{AsksCatalogue, Holds, IsNamed, ReadsCatalogue};
 ghost use Rattle.top_call.specs.Outcome.{IsCertifiedDay, IsDoneOrWant, IsOfRequest, IsProductOf, IsThisOrWant, IsWritten};
-ghost use Rattle.top_call.specs.Shelf.{AreCatalogues, AreRead, IsCounted, IsKept};
+ghost use Rattle.top_call.specs.Shelf.{AreCatalogues, AreRead, IsCounted};
 ghost use Rattle.top_call.specs.declared.outcome.Product.{Product};
 
 use crate::day::DayResult;
@@ -81,10 +81,16 @@ pub fn run_for_nobody(
     shelf: &mut NeverFailShelf,
     out: &mut NeverFailSink,
 ) -> Outcome
+    ensures usage { (fault : UsageFault) → (result ≡ Outcome.Usage fault) ↔ (words_value words.now ≡ Err (faults.Usage fault)) }
+    ensures window { (fault : WindowFault) → (result ≡ Outcome.BadWindow fault) ↔ (words_value words.now ≡ Err (faults.Window fault)) }
     ensures certificate { (product : Product) → result ≡ Outcome.Done product
         → IsProductOf (λ name. Some (supplied shelf.old.files name)) words.now product }
     ensures completeness { (request : Request) → words_value words.now ≡ Ok request
         → AreCatalogues (λ name. Some (supplied shelf.old.files name)) words.now → IsDoneOrWant result }
+    ensures bad_catalogues { (name : List ℕ) (instant : ℤ) (fault : CatFault) → AsksCatalogue words.now name instant
+        → Holds (Some (supplied shelf.old.files name)) instant (Err fault) → IsThisOrWant (Outcome.BadCatalogue fault) result }
+    ensures long_files { (name : List ℕ) (instant : ℤ) → AsksCatalogue words.now name instant
+        → most_bytes < length (supplied shelf.old.files name) → IsThisOrWant Outcome.TooLong result }
 {
     run(alloc, words, shelf, out)
 }

@@ -1,6 +1,6 @@
 use Rattle.std.proofs.Common.{refl}
+use Rattle.outside_io.specs.Counts.{IsKept}
 use Rattle.top_call.specs.Files.{ReadsCatalogue}
-use Rattle.top_call.specs.Shelf.{IsKept}
 use Rattle.top_call.proofs.top.run_request.Goals as goal
 
 pub run_show-requires : goal.run_show-requires
