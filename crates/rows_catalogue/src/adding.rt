@@ -2,6 +2,7 @@
 use catalogue::Catalogue;
 use elements::{Elements, Text};
 use std::alloc::{AllocError, Global};
+use std::process::Abort;
 use std::test::Fail;
 use tle_read::read_pair;
 
@@ -24,24 +25,31 @@ fn add(alloc: Global, catalogue: &mut Catalogue, elements: Elements) -> Result<b
     catalogue.add(elements, name)
 }
 
+/// The satellite of two lines is added, or it was there.
+fn adds(
+    catalogue: &mut Catalogue,
+    line1: &[u8],
+    line2: &[u8],
+    added: bool,
+    rt: &(impl Abort + AllocGlobal),
+) -> Result<(), AllocError> {
+    match read_pair(line1, line2) {
+        Ok(elements) => {
+            let was = add(rt.alloc(), catalogue, elements)?;
+            assert!(rt; was == added, "a number is added once");
+        }
+        Err(_) => assert!(rt; false, "the lines are a set"),
+    }
+    Ok(())
+}
+
 #[test]
 fn each_number_is_added_once(rt: HostRuntime) -> Result<(), Fail> {
     let mut catalogue = Catalogue::empty(rt.alloc());
-    let sets: [(&[u8], &[u8], bool); 3] = [
-        (STATION1, STATION2, true),
-        (VANGUARD1, VANGUARD2, true),
-        (STATION1, STATION2, false),
-    ];
     assert_eq!(rt; catalogue.len(), 0, "no satellite is there at first");
-    for (line1, line2, added) in &sets {
-        match read_pair(line1, line2) {
-            Ok(elements) => match add(rt.alloc(), &mut catalogue, elements) {
-                Ok(was) => assert!(rt; was == *added, "a number is added once"),
-                Err(_) => assert!(rt; false, "memory is left"),
-            },
-            Err(_) => assert!(rt; false, "the lines are a set"),
-        }
-    }
+    adds(&mut catalogue, STATION1, STATION2, true, &rt)?;
+    adds(&mut catalogue, VANGUARD1, VANGUARD2, true, &rt)?;
+    adds(&mut catalogue, STATION1, STATION2, false, &rt)?;
     assert_eq!(rt; catalogue.len(), 2, "two satellites are there");
     if catalogue.len() == 2 {
         assert_eq!(rt; catalogue.entry(0).elements.number(), 25544, "the first");

@@ -1,7 +1,8 @@
 //! The lines of the tests, and files of them.
 use catalogue::{CatFault, Catalogue, read_catalogue};
-use elements::Instant;
+use elements::{Decimal, Instant};
 use std::alloc::{AllocError, Global};
+use std::process::Abort;
 
 /// Vanguard 1, one of the published test cases of the orbit model.
 pub(crate) const VANGUARD1: &[u8; 69] =
@@ -97,4 +98,19 @@ pub(crate) fn only(alloc: Global, bytes: &[u8], start: i64, name: &[u8]) -> (u32
         }
         Err(_) => (0, 0, false),
     }
+}
+
+/// Whether the decimal has these digits and places.
+pub(crate) fn has(found: Decimal, digits: i64, places: u8) -> bool {
+    found.digits() == digits && found.places() == places
+}
+
+/// A file has this fault, or none.
+pub(crate) fn expect(
+    bytes: &[u8],
+    fault: Option<CatFault>,
+    about: &str,
+    rt: &(impl Abort + AllocGlobal),
+) {
+    assert_eq!(rt; read(rt.alloc(), bytes, START).err(), fault, "{about}");
 }

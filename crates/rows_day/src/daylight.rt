@@ -1,6 +1,8 @@
-use crate::calls::{run_line, words_of, written_by};
+use crate::calls::{run_line, words_of, writes};
 use outside_io::{MemorySink, NeverFailShelf, NeverFailSink};
 use sgp4_model::{Mark, Span};
+use std::alloc::AllocError;
+use std::process::Abort;
 use std::test::Fail;
 use top_call::{DayResult, Outcome, Product, run_for_nobody};
 
@@ -9,39 +11,44 @@ const HOUR: u64 = 36_000_000;
 
 #[test]
 fn the_daylight_of_a_place_is_printed(rt: HostRuntime) -> Result<(), Fail> {
-    // Lines of words, and what is printed. At the poles the Sun is up for the half of the year; at the meridian of
-    // Greenwich it is noon; on Spitsbergen the Sun does not set in June, and does not rise in December.
-    let rows: [(&[u8], &[u8]); 6] = [
-        (
-            b"day --lat=90 --lon=0 --start=2000-06-21T00:00:00Z --end=2000-06-21T01:00:00Z --res=1",
-            b"PASSDAY 1\nWINDOW 2000-06-21T00:00:00.0000Z 2000-06-21T01:00:00.0000Z 1\nL 2000-06-21T00:00:00.0000Z 2000-06-21T01:00:00.0000Z\nEND\n",
-        ),
-        (
-            b"day --lat=-90 --lon=0 --start=2000-06-21T00:00:00Z --end=2000-06-21T01:00:00Z --res=1",
-            b"PASSDAY 1\nWINDOW 2000-06-21T00:00:00.0000Z 2000-06-21T01:00:00.0000Z 1\nN 2000-06-21T00:00:00.0000Z 2000-06-21T01:00:00.0000Z\nEND\n",
-        ),
-        (
-            b"day --lat 0 --lon 0 --start 2000-01-01T12:00:00Z --end 2000-01-01T13:00:00Z --res 1",
-            b"PASSDAY 1\nWINDOW 2000-01-01T12:00:00.0000Z 2000-01-01T13:00:00.0000Z 1\nL 2000-01-01T12:00:00.0000Z 2000-01-01T13:00:00.0000Z\nEND\n",
-        ),
-        (
-            b"day --lat 0 --lon 180 --start 2000-001T12:00:00 --end 2000-01-01T12:00:00.0001Z --res 05",
-            b"PASSDAY 1\nWINDOW 2000-01-01T12:00:00.0000Z 2000-01-01T12:00:00.0001Z 5\nN 2000-01-01T12:00:00.0000Z 2000-01-01T12:00:00.0001Z\nEND\n",
-        ),
-        (
-            b"day --res=60 --lat=78 --lon=15 --start=2000-06-21T00:00:00Z --end=2000-07-01T00:00:00Z",
-            b"PASSDAY 1\nWINDOW 2000-06-21T00:00:00.0000Z 2000-07-01T00:00:00.0000Z 60\nL 2000-06-21T00:00:00.0000Z 2000-07-01T00:00:00.0000Z\nEND\n",
-        ),
-        (
-            b"day --lat=78 --lon=15 --start=2000-12-15T00:00:00Z --end=2000-12-25T00:00:00Z --res=1",
-            b"PASSDAY 1\nWINDOW 2000-12-15T00:00:00.0000Z 2000-12-25T00:00:00.0000Z 1\nN 2000-12-15T00:00:00.0000Z 2000-12-25T00:00:00.0000Z\nEND\n",
-        ),
-    ];
-    for (row, &(line, wanted)) in rows.iter().enumerate() {
-        let (out, status) = written_by(rt.alloc(), line, 1000, 0)?;
-        assert_eq!(rt; out.written(), wanted, "row {row}");
-        assert_eq!(rt; status, 0, "row {row}");
-    }
+    // At the poles the Sun is up for the half of the year; at the meridian of Greenwich it is noon; on Spitsbergen the
+    // Sun does not set in June, and does not rise in December.
+    writes(
+        "day --lat=90 --lon=0 --start=2000-06-21T00:00:00Z --end=2000-06-21T01:00:00Z --res=1",
+        b"PASSDAY 1\nWINDOW 2000-06-21T00:00:00.0000Z 2000-06-21T01:00:00.0000Z 1\nL 2000-06-21T00:00:00.0000Z 2000-06-21T01:00:00.0000Z\nEND\n",
+        0,
+        &rt,
+    )?;
+    writes(
+        "day --lat=-90 --lon=0 --start=2000-06-21T00:00:00Z --end=2000-06-21T01:00:00Z --res=1",
+        b"PASSDAY 1\nWINDOW 2000-06-21T00:00:00.0000Z 2000-06-21T01:00:00.0000Z 1\nN 2000-06-21T00:00:00.0000Z 2000-06-21T01:00:00.0000Z\nEND\n",
+        0,
+        &rt,
+    )?;
+    writes(
+        "day --lat 0 --lon 0 --start 2000-01-01T12:00:00Z --end 2000-01-01T13:00:00Z --res 1",
+        b"PASSDAY 1\nWINDOW 2000-01-01T12:00:00.0000Z 2000-01-01T13:00:00.0000Z 1\nL 2000-01-01T12:00:00.0000Z 2000-01-01T13:00:00.0000Z\nEND\n",
+        0,
+        &rt,
+    )?;
+    writes(
+        "day --lat 0 --lon 180 --start 2000-001T12:00:00 --end 2000-01-01T12:00:00.0001Z --res 05",
+        b"PASSDAY 1\nWINDOW 2000-01-01T12:00:00.0000Z 2000-01-01T12:00:00.0001Z 5\nN 2000-01-01T12:00:00.0000Z 2000-01-01T12:00:00.0001Z\nEND\n",
+        0,
+        &rt,
+    )?;
+    writes(
+        "day --res=60 --lat=78 --lon=15 --start=2000-06-21T00:00:00Z --end=2000-07-01T00:00:00Z",
+        b"PASSDAY 1\nWINDOW 2000-06-21T00:00:00.0000Z 2000-07-01T00:00:00.0000Z 60\nL 2000-06-21T00:00:00.0000Z 2000-07-01T00:00:00.0000Z\nEND\n",
+        0,
+        &rt,
+    )?;
+    writes(
+        "day --lat=78 --lon=15 --start=2000-12-15T00:00:00Z --end=2000-12-25T00:00:00Z --res=1",
+        b"PASSDAY 1\nWINDOW 2000-12-15T00:00:00.0000Z 2000-12-25T00:00:00.0000Z 1\nN 2000-12-15T00:00:00.0000Z 2000-12-25T00:00:00.0000Z\nEND\n",
+        0,
+        &rt,
+    )?;
     Ok(())
 }
 
@@ -97,23 +104,30 @@ fn light_and_night_alternate_through_ten_days(rt: HostRuntime) -> Result<(), Fai
     Ok(())
 }
 
+/// A run of the words of a line over what never fails is done.
+fn is_done(line: &[u8], rt: &(impl Abort + AllocGlobal)) -> Result<(), AllocError> {
+    let alloc = rt.alloc();
+    let words = words_of(alloc, line)?;
+    let mut shelf = NeverFailShelf::make(alloc)?;
+    let mut out = NeverFailSink::make();
+    let outcome = run_for_nobody(alloc, words.as_slice(), &mut shelf, &mut out);
+    let is_done = match &outcome {
+        Outcome::Done { .. } => true,
+        _ => false,
+    };
+    assert!(rt; is_done, "{line:?}");
+    Ok(())
+}
+
 #[test]
 fn over_what_never_fails_a_run_is_done(rt: HostRuntime) -> Result<(), Fail> {
-    let alloc = rt.alloc();
-    let lines: [&[u8]; 2] = [
+    is_done(
         b"day --lat=90 --lon=0 --start=2000-06-21T00:00:00Z --end=2000-06-21T01:00:00Z --res=1",
+        &rt,
+    )?;
+    is_done(
         b"day --lat=-48.1 --lon=300.5 --start=2056-12-21T00:00:00Z --end=2056-12-31T00:00:00Z --res=60",
-    ];
-    for (row, &line) in lines.iter().enumerate() {
-        let words = words_of(alloc, line)?;
-        let mut shelf = NeverFailShelf::make(alloc)?;
-        let mut out = NeverFailSink::make();
-        let outcome = run_for_nobody(alloc, words.as_slice(), &mut shelf, &mut out);
-        let is_done = match &outcome {
-            Outcome::Done { .. } => true,
-            _ => false,
-        };
-        assert!(rt; is_done, "row {row}");
-    }
+        &rt,
+    )?;
     Ok(())
 }

@@ -1,6 +1,7 @@
 use crate::calls::words_of;
 use outside_io::{MemoryShelf, MemorySink};
 use std::alloc::Global;
+use std::process::Abort;
 use std::test::Fail;
 use top_call::{run, status};
 
@@ -21,68 +22,104 @@ fn written_by(alloc: Global, line: &[u8], failing: u64) -> Result<(MemorySink, u
     Ok((out, status(&outcome)))
 }
 
-#[test]
-fn each_line_is_one_put(rt: HostRuntime) -> Result<(), Fail> {
-    // Lines of words, how many lines they write, and the statuses of a run and of one that is cut off.
-    let rows: [(&[u8], usize, u8, u8); 11] = [
-        (
-            b"day --lat=90 --lon=0 --start=2000-06-21T00:00:00Z --end=2000-06-21T01:00:00Z --res=1",
-            4,
-            0,
-            8,
-        ),
-        (
-            b"day --lat=0 --lon=0 --start=2000-06-21T00:00:00Z --end=2000-06-22T00:00:00Z --res=1",
-            8,
-            0,
-            8,
-        ),
-        (b"show --catalogue=a --start=2000-06-28T00:00:00Z", 3, 0, 8),
-        (
-            b"locate --catalogue=a --number=5 --at=2000-06-27T18:50:19.733568Z",
-            7,
-            0,
-            8,
-        ),
-        (
-            b"locate --catalogue=a --number=6 --at=2000-06-27T18:50:19.733568Z",
-            4,
-            1,
-            8,
-        ),
-        (
-            b"locate --catalogue=a --number=5 --at=2000-07-27T18:50:19.733568Z",
-            4,
-            1,
-            8,
-        ),
-        (b"locate", 1, 2, 2),
-        (b"show --catalogue=a --start=x", 1, 3, 3),
-        (b"show --catalogue=b --start=2000-06-28T00:00:00Z", 1, 4, 4),
-        (
-            b"locate --catalogue=b --number=5 --at=2000-06-28T00:00:00Z",
-            1,
-            4,
-            4,
-        ),
-        (b"show --catalogue=c --start=2000-06-28T00:00:00Z", 1, 6, 6),
-    ];
-    for (row, &(line, count, whole, cut)) in rows.iter().enumerate() {
-        let (full, found) = written_by(rt.alloc(), line, 0)?;
-        assert_eq!(rt; found, whole, "row {row}");
-        let mut wanted = Vec::new(rt.alloc());
-        let mut lines = 0usize;
-        for text in full.written().split_inclusive(|byte| *byte == b'\n') {
-            lines = lines.saturating_add(1);
-            let (out, found) = written_by(rt.alloc(), line, lines as u64)?;
-            let before = wanted.len();
-            wanted.extend_from_slice(&text[..text.len() / 2])?;
-            assert_eq!(rt; out.written(), wanted.as_slice(), "row {row}, put {lines}");
-            assert_eq!(rt; found, cut, "row {row}, put {lines}");
-            wanted.truncate(before);
-            wanted.extend_from_slice(text)?;
-        }
-        assert_eq!(rt; lines, count, "row {row}");
+/// The words of a line write so many lines, each in one put: where a put fails, half of its line is the last thing
+/// written. They end with the first status, and with the second where a put fails.
+fn puts(
+    line: &str,
+    count: usize,
+    whole: u8,
+    cut: u8,
+    rt: &(impl Abort + AllocGlobal),
+) -> Result<(), Fail> {
+    let (full, found) = written_by(rt.alloc(), line.as_bytes(), 0)?;
+    assert_eq!(rt; found, whole, "{line}");
+    let mut wanted = Vec::new(rt.alloc());
+    let mut lines = 0usize;
+    for text in full.written().split_inclusive(|byte| *byte == b'\n') {
+        lines = lines.saturating_add(1);
+        let (out, found) = written_by(rt.alloc(), line.as_bytes(), lines as u64)?;
+        let before = wanted.len();
+        wanted.extend_from_slice(&text[..text.len() / 2])?;
+        assert_eq!(rt; out.written(), wanted.as_slice(), "{line}, put {lines}");
+        assert_eq!(rt; found, cut, "{line}, put {lines}");
+        wanted.truncate(before);
+        wanted.extend_from_slice(text)?;
     }
+    assert_eq!(rt; lines, count, "{line}");
+    Ok(())
+}
+
+#[test]
+fn each_line_of_a_result_is_one_put(rt: HostRuntime) -> Result<(), Fail> {
+    puts(
+        "day --lat=90 --lon=0 --start=2000-06-21T00:00:00Z --end=2000-06-21T01:00:00Z --res=1",
+        4,
+        0,
+        8,
+        &rt,
+    )?;
+    puts(
+        "day --lat=0 --lon=0 --start=2000-06-21T00:00:00Z --end=2000-06-22T00:00:00Z --res=1",
+        8,
+        0,
+        8,
+        &rt,
+    )?;
+    puts(
+        "show --catalogue=a --start=2000-06-28T00:00:00Z",
+        3,
+        0,
+        8,
+        &rt,
+    )?;
+    puts(
+        "locate --catalogue=a --number=5 --at=2000-06-27T18:50:19.733568Z",
+        7,
+        0,
+        8,
+        &rt,
+    )?;
+    puts(
+        "locate --catalogue=a --number=6 --at=2000-06-27T18:50:19.733568Z",
+        4,
+        1,
+        8,
+        &rt,
+    )?;
+    puts(
+        "locate --catalogue=a --number=5 --at=2000-07-27T18:50:19.733568Z",
+        4,
+        1,
+        8,
+        &rt,
+    )?;
+    Ok(())
+}
+
+#[test]
+fn the_line_of_a_refusal_is_one_put(rt: HostRuntime) -> Result<(), Fail> {
+    puts("locate", 1, 2, 2, &rt)?;
+    puts("show --catalogue=a --start=x", 1, 3, 3, &rt)?;
+    puts(
+        "show --catalogue=b --start=2000-06-28T00:00:00Z",
+        1,
+        4,
+        4,
+        &rt,
+    )?;
+    puts(
+        "locate --catalogue=b --number=5 --at=2000-06-28T00:00:00Z",
+        1,
+        4,
+        4,
+        &rt,
+    )?;
+    puts(
+        "show --catalogue=c --start=2000-06-28T00:00:00Z",
+        1,
+        6,
+        6,
+        &rt,
+    )?;
     Ok(())
 }

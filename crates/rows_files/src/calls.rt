@@ -1,6 +1,7 @@
 use elements::Text;
 use outside_io::{MemoryShelf, MemorySink};
 use std::alloc::{AllocError, Global};
+use std::process::Abort;
 use top_call::{Outcome, run, status};
 
 /// The words of a line, which are parted by one blank each.
@@ -40,4 +41,30 @@ pub fn shown_by(alloc: Global, line: &[u8], bytes: &[u8]) -> Result<(MemorySink,
     let mut out = MemorySink::make(alloc, 1000)?;
     let outcome = run_over(alloc, line, bytes, &mut out)?;
     Ok((out, status(&outcome)))
+}
+
+/// This is written, and the status is the wanted one.
+pub fn expect(
+    out: &MemorySink,
+    wanted: &[u8],
+    found: u8,
+    wanted_status: u8,
+    about: &str,
+    rt: &impl Abort,
+) {
+    assert_eq!(rt; out.written(), wanted, "{about}");
+    assert_eq!(rt; found, wanted_status, "{about}");
+}
+
+/// The words of a line over such a shelf write this, and end with this status.
+pub fn writes(
+    line: &str,
+    bytes: &[u8],
+    wanted: &[u8],
+    wanted_status: u8,
+    rt: &(impl Abort + AllocGlobal),
+) -> Result<(), AllocError> {
+    let (out, found) = shown_by(rt.alloc(), line.as_bytes(), bytes)?;
+    expect(&out, wanted, found, wanted_status, line, rt);
+    Ok(())
 }

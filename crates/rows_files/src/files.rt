@@ -14,7 +14,7 @@ pub const VANGUARD_SHOWN: &[u8] =
     b"PASSSHOW 1\nSET 5 2000-06-27T18:50:19.733568000Z 10.82419157 0.1859667 34.2682 348.7242 331.7664 19.3264 0.000028098 -\nEND\n";
 
 /// The words that ask for it.
-pub const WORDS: &[u8] = b"show --catalogue=a --start=2000-06-28T00:00:00Z";
+pub const WORDS: &str = "show --catalogue=a --start=2000-06-28T00:00:00Z";
 
 /// A set of our own making, on the equator, with a check digit at each line's end.
 pub const EQUATOR1: &[u8] =

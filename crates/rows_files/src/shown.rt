@@ -1,4 +1,4 @@
-use crate::calls::{run_over, shown_by, words_of};
+use crate::calls::{run_over, words_of, writes};
 use crate::files::{
     BOTH, BOTH_SHOWN, LETTERED, LETTERED_SHOWN, MESSAGE, MESSAGE_SHOWN, NAMED, NAMED_SHOWN, TWICE,
     TWICE_SHOWN, VANGUARD, VANGUARD_SHOWN, WORDS,
@@ -12,29 +12,25 @@ use top_call::{Outcome, Product, run_for_nobody, status};
 
 #[test]
 fn the_sets_of_a_file_are_printed(rt: HostRuntime) -> Result<(), Fail> {
-    // Lines of words, the bytes of the file, and what is printed.
-    let rows: [(&[u8], &[u8], &[u8]); 7] = [
-        (WORDS, VANGUARD, VANGUARD_SHOWN),
-        (
-            b"show --start 2000-06-28T00:00:00.000000001 --catalogue a",
-            VANGUARD,
-            VANGUARD_SHOWN,
-        ),
-        (WORDS, NAMED, NAMED_SHOWN),
-        (WORDS, LETTERED, LETTERED_SHOWN),
-        (
-            b"show --catalogue=a --start=2008-09-20T00:00:00Z",
-            MESSAGE,
-            MESSAGE_SHOWN,
-        ),
-        (WORDS, BOTH, BOTH_SHOWN),
-        (WORDS, TWICE, TWICE_SHOWN),
-    ];
-    for (row, &(line, bytes, wanted)) in rows.iter().enumerate() {
-        let (out, status) = shown_by(rt.alloc(), line, bytes)?;
-        assert_eq!(rt; out.written(), wanted, "row {row}");
-        assert_eq!(rt; status, 0, "row {row}");
-    }
+    writes(WORDS, VANGUARD, VANGUARD_SHOWN, 0, &rt)?;
+    writes(
+        "show --start 2000-06-28T00:00:00.000000001 --catalogue a",
+        VANGUARD,
+        VANGUARD_SHOWN,
+        0,
+        &rt,
+    )?;
+    writes(WORDS, NAMED, NAMED_SHOWN, 0, &rt)?;
+    writes(WORDS, LETTERED, LETTERED_SHOWN, 0, &rt)?;
+    writes(
+        "show --catalogue=a --start=2008-09-20T00:00:00Z",
+        MESSAGE,
+        MESSAGE_SHOWN,
+        0,
+        &rt,
+    )?;
+    writes(WORDS, BOTH, BOTH_SHOWN, 0, &rt)?;
+    writes(WORDS, TWICE, TWICE_SHOWN, 0, &rt)?;
     Ok(())
 }
 
@@ -60,7 +56,7 @@ fn number_shown(outcome: &Outcome) -> Option<u32> {
 #[test]
 fn the_product_is_the_catalogue(rt: HostRuntime) -> Result<(), Fail> {
     let mut out = MemorySink::make(rt.alloc(), 1000)?;
-    let outcome = run_over(rt.alloc(), WORDS, VANGUARD, &mut out)?;
+    let outcome = run_over(rt.alloc(), WORDS.as_bytes(), VANGUARD, &mut out)?;
     assert_eq!(rt; number_shown(&outcome), Some(5));
     Ok(())
 }
@@ -78,7 +74,7 @@ fn run_safely(
 #[test]
 fn over_what_never_fails_a_run_is_done(rt: HostRuntime) -> Result<(), Fail> {
     let alloc = rt.alloc();
-    let words = words_of(alloc, WORDS)?;
+    let words = words_of(alloc, WORDS.as_bytes())?;
     let mut shelf = NeverFailShelf::make(alloc)?;
     let mut out = NeverFailSink::make();
     // A file that was not added is there, and has no bytes.

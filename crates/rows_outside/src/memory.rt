@@ -1,28 +1,28 @@
 use outside_io::{
     Failed, LoadFault, MemoryShelf, MemorySink, NeverFailShelf, NeverFailSink, Shelf, Sink,
 };
+use std::process::Abort;
 use std::test::Fail;
+
+/// The put of a piece goes through or fails, and then this is written.
+fn puts(sink: &mut MemorySink, piece: &[u8], goes_through: bool, written: &[u8], rt: &impl Abort) {
+    assert_eq!(rt; sink.put(piece).is_ok(), goes_through);
+    assert_eq!(rt; sink.written(), written);
+}
 
 #[test]
 fn a_put_fails_where_it_is_listed_or_too_long(rt: HostRuntime) -> Result<(), Fail> {
     let mut sink = MemorySink::make(rt.alloc(), 12)?;
     sink.fail_at(2)?;
     sink.fail_at(4)?;
-    // Each piece, whether its put goes through, and all that is written then.
-    let puts: [(&[u8], bool, &[u8]); 8] = [
-        (b"abc", true, b"abc"),
-        (b"defgh", false, b"abcde"),
-        (b"", true, b"abcde"),
-        (b"x", false, b"abcde"),
-        (b"12345678", false, b"abcde1234"),
-        (b"123456789", false, b"abcde1234123"),
-        (b"", true, b"abcde1234123"),
-        (b"z", false, b"abcde1234123"),
-    ];
-    for &(piece, goes_through, written) in puts.iter() {
-        assert_eq!(rt; sink.put(piece).is_ok(), goes_through);
-        assert_eq!(rt; sink.written(), written);
-    }
+    puts(&mut sink, b"abc", true, b"abc", &rt);
+    puts(&mut sink, b"defgh", false, b"abcde", &rt);
+    puts(&mut sink, b"", true, b"abcde", &rt);
+    puts(&mut sink, b"x", false, b"abcde", &rt);
+    puts(&mut sink, b"12345678", false, b"abcde1234", &rt);
+    puts(&mut sink, b"123456789", false, b"abcde1234123", &rt);
+    puts(&mut sink, b"", true, b"abcde1234123", &rt);
+    puts(&mut sink, b"z", false, b"abcde1234123", &rt);
     Ok(())
 }
 
@@ -45,32 +45,49 @@ fn a_room_past_all_memory_is_refused(rt: HostRuntime) -> Result<(), Fail> {
     Ok(())
 }
 
+/// The load of a name gives these bytes.
+fn gives(
+    shelf: &mut MemoryShelf,
+    name: &[u8],
+    room: u64,
+    wanted: &[u8],
+    rt: &(impl Abort + AllocGlobal),
+) {
+    match shelf.load(rt.alloc(), name, room) {
+        Ok(bytes) => assert_eq!(rt; bytes.as_slice(), wanted, "room {room}"),
+        Err(fault) => assert!(rt; false, "room {room}: {fault:?}"),
+    }
+}
+
+/// The load of a name has this fault.
+fn refuses(
+    shelf: &mut MemoryShelf,
+    name: &[u8],
+    room: u64,
+    wanted: LoadFault,
+    rt: &(impl Abort + AllocGlobal),
+) {
+    match shelf.load(rt.alloc(), name, room) {
+        Ok(_) => assert!(rt; false, "room {room}"),
+        Err(fault) => assert_eq!(rt; fault, wanted, "room {room}"),
+    }
+}
+
 #[test]
 fn a_load_gives_the_bytes_or_its_fault(rt: HostRuntime) -> Result<(), Fail> {
-    let alloc = rt.alloc();
-    let mut shelf = MemoryShelf::make(alloc)?;
+    let mut shelf = MemoryShelf::make(rt.alloc())?;
     shelf.add(b"a", b"old bytes")?;
     shelf.add(b"ab", b"")?;
     shelf.add(b"a", b"hello")?;
     shelf.fail_at(3)?;
-    // Each name, the room for it, and the bytes or the fault.
-    let loads: [(&[u8], u64, Result<&[u8], LoadFault>); 8] = [
-        (b"a", 5, Ok(b"hello")),
-        (b"a", 4, Err(LoadFault::TooLong)),
-        (b"a", 5, Err(LoadFault::Failed)),
-        (b"a", u64::MAX, Ok(b"hello")),
-        (b"ab", 0, Ok(b"")),
-        (b"abc", 5, Err(LoadFault::Failed)),
-        (b"", 5, Err(LoadFault::Failed)),
-        (b"a", 0, Err(LoadFault::TooLong)),
-    ];
-    for &(name, room, wanted) in loads.iter() {
-        match (shelf.load(alloc, name, room), wanted) {
-            (Ok(bytes), Ok(held)) => assert_eq!(rt; bytes.as_slice(), held),
-            (Err(fault), Err(other)) => assert_eq!(rt; fault, other),
-            _ => assert!(rt; false, "room {room}"),
-        }
-    }
+    gives(&mut shelf, b"a", 5, b"hello", &rt);
+    refuses(&mut shelf, b"a", 4, LoadFault::TooLong, &rt);
+    refuses(&mut shelf, b"a", 5, LoadFault::Failed, &rt);
+    gives(&mut shelf, b"a", u64::MAX, b"hello", &rt);
+    gives(&mut shelf, b"ab", 0, b"", &rt);
+    refuses(&mut shelf, b"abc", 5, LoadFault::Failed, &rt);
+    refuses(&mut shelf, b"", 5, LoadFault::Failed, &rt);
+    refuses(&mut shelf, b"a", 0, LoadFault::TooLong, &rt);
     Ok(())
 }
 

@@ -2,6 +2,7 @@ use outside_io::{Failed, Sink, StdSink};
 use std::alloc::Global;
 use std::io;
 use std::io::{ErrorKind, Write};
+use std::process::Abort;
 use std::test::Fail;
 
 /// A writer in memory that takes at most `step` bytes a call, and errs once it has taken `limit`.
@@ -42,26 +43,31 @@ impl Write for Slow {
     }
 }
 
+/// The put of five bytes over a writer of this step and limit goes through or fails, and this was taken then, in so many
+/// calls.
+fn puts(
+    step: usize,
+    limit: usize,
+    goes_through: bool,
+    taken: &[u8],
+    calls: u32,
+    rt: &(impl Abort + AllocGlobal),
+) {
+    let mut writer = Slow::make(rt.alloc(), step, limit);
+    let mut sink = StdSink::make(&mut writer);
+    let answer = sink.put(b"hello");
+    assert_eq!(rt; answer, if goes_through { Ok(()) } else { Err(Failed) });
+    assert_eq!(rt; writer.bytes.as_slice(), taken);
+    assert_eq!(rt; writer.calls, calls);
+}
+
 #[test]
-fn a_put_goes_on_until_all_is_taken(rt: HostRuntime) -> Result<(), Fail> {
-    // Each step and limit, whether the put of five bytes goes through, what was taken then, and in
-    // how many calls.
-    let cases: [(usize, usize, bool, &[u8], u32); 5] = [
-        (1, 100, true, b"hello", 5),
-        (2, 100, true, b"hello", 3),
-        (100, 100, true, b"hello", 1),
-        (0, 100, false, b"", 1),
-        (2, 4, false, b"hell", 3),
-    ];
-    for &(step, limit, goes_through, taken, calls) in cases.iter() {
-        let mut writer = Slow::make(rt.alloc(), step, limit);
-        let mut sink = StdSink::make(&mut writer);
-        let answer = sink.put(b"hello");
-        assert_eq!(rt; answer, if goes_through { Ok(()) } else { Err(Failed) });
-        assert_eq!(rt; writer.bytes.as_slice(), taken);
-        assert_eq!(rt; writer.calls, calls);
-    }
-    Ok(())
+fn a_put_goes_on_until_all_is_taken(rt: HostRuntime) {
+    puts(1, 100, true, b"hello", 5, &rt);
+    puts(2, 100, true, b"hello", 3, &rt);
+    puts(100, 100, true, b"hello", 1, &rt);
+    puts(0, 100, false, b"", 1, &rt);
+    puts(2, 4, false, b"hell", 3, &rt);
 }
 
 #[test]

@@ -1,7 +1,8 @@
-use crate::words::{Asked, answer, day_words};
+use crate::words::{Asked, day_words, expect};
 use elements::Text;
 use pass_words::{Opt, UsageFault, WindowFault, WordFault};
 use std::alloc::{AllocError, Global};
+use std::process::Abort;
 use std::test::Fail;
 
 const START: &[u8] = b"2000-06-21T00:00:00Z";
@@ -18,22 +19,24 @@ fn many_words(alloc: Global, word: &[u8]) -> Result<Vec<Text>, AllocError> {
     Ok(words)
 }
 
+/// `day` and a hundred thousand more words have this fault.
+fn many(word: &[u8], fault: UsageFault, rt: &(impl Abort + AllocGlobal)) -> Result<(), AllocError> {
+    let words = many_words(rt.alloc(), word)?;
+    expect(
+        words.as_slice(),
+        Err(WordFault::Usage(fault)),
+        "many words",
+        rt,
+    );
+    Ok(())
+}
+
 #[test]
 fn a_hundred_thousand_words_have_one_fault(rt: HostRuntime) -> Result<(), Fail> {
-    let rows: [(&[u8], UsageFault); 4] = [
-        (b"", UsageFault::Word { at: 2 }),
-        (b"--lat", UsageFault::Word { at: 2 }),
-        (b"--lat=1", UsageFault::Twice { key: Opt::Lat }),
-        (b"\xff\xfe", UsageFault::Word { at: 2 }),
-    ];
-    for (row, &(word, wanted)) in rows.iter().enumerate() {
-        let words = many_words(rt.alloc(), word)?;
-        assert_eq!(rt;
-            answer(words.as_slice()),
-            Err(WordFault::Usage(wanted)),
-            "row {row}"
-        );
-    }
+    many(b"", UsageFault::Word { at: 2 }, &rt)?;
+    many(b"--lat", UsageFault::Word { at: 2 }, &rt)?;
+    many(b"--lat=1", UsageFault::Twice { key: Opt::Lat }, &rt)?;
+    many(b"\xff\xfe", UsageFault::Word { at: 2 }, &rt)?;
     Ok(())
 }
 
@@ -44,22 +47,28 @@ fn words_of_a_megabyte_are_read_to_their_end(rt: HostRuntime) -> Result<(), Fail
     // A million zeros write the number 0.
     let words = day_words(alloc, long.as_slice(), b"7", START, HOUR, b"1")?;
     let wanted = Ok(Asked::Day(((0, 0), (7, 0), (14_817_600_000_000_000, 36_000_000, 10_000))));
-    assert_eq!(rt; answer(words.as_slice()), wanted);
+    expect(words.as_slice(), wanted, "a megabyte of zeros", &rt);
     let words = day_words(alloc, b"0", b"0", START, long.as_slice(), b"1")?;
-    assert_eq!(rt;
-        answer(words.as_slice()),
-        Err(WordFault::Window(WindowFault::Shape))
+    expect(
+        words.as_slice(),
+        Err(WordFault::Window(WindowFault::Shape)),
+        "a megabyte",
+        &rt,
     );
     let words = day_words(alloc, b"0", b"0", START, HOUR, long.as_slice())?;
-    assert_eq!(rt;
-        answer(words.as_slice()),
-        Err(WordFault::Window(WindowFault::Resolution))
+    expect(
+        words.as_slice(),
+        Err(WordFault::Window(WindowFault::Resolution)),
+        "a megabyte",
+        &rt,
     );
     long.push(b'\xff')?;
     let words = day_words(alloc, b"0", long.as_slice(), START, HOUR, b"1")?;
-    assert_eq!(rt;
-        answer(words.as_slice()),
-        Err(WordFault::Usage(UsageFault::Word { at: 3 }))
+    expect(
+        words.as_slice(),
+        Err(WordFault::Usage(UsageFault::Word { at: 3 })),
+        "a megabyte",
+        &rt,
     );
     Ok(())
 }

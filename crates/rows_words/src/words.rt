@@ -1,6 +1,7 @@
 use elements::{Decimal, Text, Window};
-use pass_words::{Part, Request, WordFault, read_words};
+use pass_words::{Part, Request, UsageFault, WindowFault, WordFault, read_words};
 use std::alloc::{AllocError, Global};
+use std::process::Abort;
 
 /// The words of a line, which are parted by one blank each.
 pub fn words_of(alloc: Global, line: &[u8]) -> Result<Vec<Text>, AllocError> {
@@ -101,4 +102,47 @@ pub fn answer(words: &[Text]) -> Result<Asked, WordFault> {
         Ok(request) => Ok(values_of(request)),
         Err(fault) => Err(fault),
     }
+}
+
+/// The words ask for this, or have this fault.
+pub fn expect(words: &[Text], wanted: Result<Asked, WordFault>, about: &str, rt: &impl Abort) {
+    assert_eq!(rt; answer(words), wanted, "{about}");
+}
+
+/// The words of a line have this fault.
+pub fn refuses(
+    line: &[u8],
+    fault: UsageFault,
+    rt: &(impl Abort + AllocGlobal),
+) -> Result<(), AllocError> {
+    let words = words_of(rt.alloc(), line)?;
+    let about = str::from_utf8(line).unwrap_or("words that are no text");
+    expect(words.as_slice(), Err(WordFault::Usage(fault)), about, rt);
+    Ok(())
+}
+
+/// Each of these lines of words has this fault.
+pub fn are_refused(
+    lines: &str,
+    fault: UsageFault,
+    rt: &(impl Abort + AllocGlobal),
+) -> Result<(), AllocError> {
+    for line in lines.lines() {
+        let words = words_of(rt.alloc(), line.as_bytes())?;
+        expect(words.as_slice(), Err(WordFault::Usage(fault)), line, rt);
+    }
+    Ok(())
+}
+
+/// Each of these lines of words has this fault of its window or instant.
+pub fn windows_are_refused(
+    lines: &str,
+    fault: WindowFault,
+    rt: &(impl Abort + AllocGlobal),
+) -> Result<(), AllocError> {
+    for line in lines.lines() {
+        let words = words_of(rt.alloc(), line.as_bytes())?;
+        expect(words.as_slice(), Err(WordFault::Window(fault)), line, rt);
+    }
+    Ok(())
 }
