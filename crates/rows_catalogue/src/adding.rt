@@ -28,8 +28,8 @@ fn add(alloc: Global, catalogue: &mut Catalogue, elements: Elements) -> Result<b
 /// The satellite of two lines is added, or it was there.
 fn adds(
     catalogue: &mut Catalogue,
-    line1: &[u8],
-    line2: &[u8],
+    line1: &[u8; 69],
+    line2: &[u8; 69],
     added: bool,
     rt: &(impl Abort + AllocGlobal),
 ) -> Result<(), AllocError> {
