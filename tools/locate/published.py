@@ -1,6 +1,6 @@
 """Compares `passplan locate` with the published positions of AIAA 2006-6753, outside the gate.
 
-The element sets and the positions are the paper's files SGP4-VER.TLE and tcppver.out; Debian's package python3-sgp4 (2.15-0.1)
+The element sets and the positions are its files SGP4-VER.TLE and tcppver.out; Debian's package python3-sgp4 (2.15-0.1)
 has both, in usr/lib/python3/dist-packages/sgp4. Each set is cut to its 69 columns and asked for at each published time within
 seven days of its epoch. What is checked:
 
