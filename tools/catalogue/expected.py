@@ -1,7 +1,7 @@
 #!/usr/bin/env python3
-"""Writes crates/rows_catalogue/src/expected.rt: what catalogues of made-up files must be.
+"""Writes crates/rows_messages/src/expected.rt: what catalogues of made-up files must be.
 
-The files are made of pieces that a generator chooses, here and in crates/rows_catalogue/src/made_up.rt alike. They are
+The files are made of pieces that a generator chooses, here and in crates/rows_messages/src/made_up.rt alike. They are
 read here by their formats, with nothing of the program: lines are counted and stripped, two-line sets are told by how
 lines begin, messages are cut at their versions, and of the sets of one number the nearest is found by sorting. Run it at
 the top of the repository, python3 tools/catalogue/expected.py, and then rt fmt in the crate.
@@ -203,7 +203,7 @@ def main():
             answer, kind = of_answer(answer, made.file(number))
             counts[kind] = counts.get(kind, 0) + 1
         answers.append(answer)
-    with open("crates/rows_catalogue/src/expected.rt", "w") as out:
+    with open("crates/rows_messages/src/expected.rt", "w") as out:
         out.write("//! Expected values, made by tools/catalogue/expected.py.\n\n")
         out.write(f"/// What {GROUP} files each must come to, as one number.\n")
         out.write(f"pub(crate) const ANSWERS: [u64; {len(answers)}] = [\n")

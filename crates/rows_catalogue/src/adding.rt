@@ -1,22 +1,11 @@
 //! Satellites are added one for each number.
+use crate::texts::{STATION1, STATION2, VANGUARD1, VANGUARD2};
 use catalogue::Catalogue;
 use elements::{Elements, Text};
 use std::alloc::{AllocError, Global};
 use std::process::Abort;
 use std::test::Fail;
 use tle_read::read_pair;
-
-const STATION1: &[u8; 69] =
-    b"1 25544U 98067A   08264.51782528 -.00002182  00000-0 -11606-4 0  2927";
-
-const STATION2: &[u8; 69] =
-    b"2 25544  51.6416 247.4627 0006703 130.5360 325.0288 15.72125391563537";
-
-const VANGUARD1: &[u8; 69] =
-    b"1 00005U 58002B   00179.78495062  .00000023  00000-0  28098-4 0  4753";
-
-const VANGUARD2: &[u8; 69] =
-    b"2 00005  34.2682 348.7242 1859667 331.7664  19.3264 10.82419157413667";
 
 /// Adds a satellite without a name.
 #[tactic(auto, using(catalogue::proofs::NameLemmas::dash_is_name))]

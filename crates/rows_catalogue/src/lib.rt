@@ -1,4 +1,4 @@
-//! Tests of catalogues.
+//! Tests of catalogues of two-line sets, and the definitions of names and catalogues on small cases.
 #![tactic(auto)]
 
 ghost use Rattle.rows_catalogue.specs.SmallNames.{SmallCatalogues, SmallNames};
@@ -6,21 +6,11 @@ ghost use Rattle.rows_catalogue.specs.SmallNames.{SmallCatalogues, SmallNames};
 #[cfg(test)]
 mod adding;
 #[cfg(test)]
-mod choosing;
-#[cfg(test)]
 mod cuts;
-#[cfg(test)]
-mod expected;
 #[cfg(test)]
 mod files;
 #[cfg(test)]
-mod made_up;
-#[cfg(test)]
 mod many;
-#[cfg(test)]
-mod messages;
-#[cfg(test)]
-mod pieces;
 #[cfg(test)]
 mod texts;
 

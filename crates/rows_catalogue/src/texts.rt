@@ -21,48 +21,6 @@ pub(crate) const STATION2: &[u8; 69] =
 /// 2008-09-20T00:00:00, in nanoseconds from 2000-01-01T12:00:00.
 pub(crate) const START: i64 = 275_140_800_000_000_000;
 
-/// What stands in a message before the name, the epoch and the number, and behind them.
-const BEFORE_NAME: &str =
-    "CCSDS_OMM_VERS = 2.0\nCOMMENT keywords in another order\nCREATION_DATE = 2008-09-21T00:00:00\nORIGINATOR =\nOBJECT_NAME = ";
-
-const BEFORE_EPOCH: &str =
-    "\nOBJECT_ID = 1998-067A\nCENTER_NAME = EARTH\nREF_FRAME = TEME\nTIME_SYSTEM = UTC\nMEAN_ELEMENT_THEORY = SGP4\nBSTAR = -.11606E-4 [1/ER]\nEPOCH = ";
-
-const BEFORE_NUMBER: &str = "\nNORAD_CAT_ID = ";
-
-const BEHIND: &str =
-    "\nMEAN_MOTION = 15.72125391 [rev/day]\nECCENTRICITY = 0.0006703\nINCLINATION = 51.6416 [deg]\nRA_OF_ASC_NODE = 247.4627 [deg]\nARG_OF_PERICENTER = 130.5360 [deg]\nMEAN_ANOMALY = 325.0288 [deg]\n";
-
-/// These pieces behind one another.
-fn joined(alloc: Global, pieces: &[&str]) -> Result<Vec<u8>, AllocError> {
-    let mut bytes = Vec::new(alloc);
-    for piece in pieces {
-        bytes.extend_from_slice(piece.as_bytes())?;
-    }
-    Ok(bytes)
-}
-
-/// A message of the station with this number, name and epoch, of 19 lines.
-pub(crate) fn message(
-    alloc: Global,
-    number: &str,
-    name: &str,
-    epoch: &str,
-) -> Result<Vec<u8>, AllocError> {
-    joined(
-        alloc,
-        &[
-            BEFORE_NAME,
-            name,
-            BEFORE_EPOCH,
-            epoch,
-            BEFORE_NUMBER,
-            number,
-            BEHIND,
-        ],
-    )
-}
-
 /// These pieces behind one another, each with a line feed behind it.
 pub(crate) fn lines(alloc: Global, pieces: &[&[u8]]) -> Result<Vec<u8>, AllocError> {
     let mut bytes = Vec::new(alloc);

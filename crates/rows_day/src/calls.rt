@@ -13,11 +13,20 @@ pub fn words_of(alloc: Global, line: &[u8]) -> Result<Vec<Text>, AllocError> {
     Ok(words)
 }
 
-/// What the words of a line come to over this output. No file stands on the shelf, and its first load would fail.
+/// What the words come to over this output. No file stands on the shelf.
+pub fn run_words(
+    alloc: Global,
+    words: &[Text],
+    out: &mut MemorySink,
+) -> Result<Outcome, AllocError> {
+    let mut shelf = MemoryShelf::make(alloc)?;
+    Ok(run(alloc, words, &mut shelf, out))
+}
+
+/// What the words of a line come to.
 pub fn run_line(alloc: Global, line: &[u8], out: &mut MemorySink) -> Result<Outcome, AllocError> {
     let words = words_of(alloc, line)?;
-    let mut shelf = MemoryShelf::make(alloc)?;
-    Ok(run(alloc, words.as_slice(), &mut shelf, out))
+    run_words(alloc, words.as_slice(), out)
 }
 
 /// What the words of a line write into an output with this room, whose put of this number, counted from 1, fails; and

@@ -1,18 +1,15 @@
-use crate::calls::{expect, written_by};
-use outside_io::{MemoryShelf, MemorySink};
+use crate::calls::{expect, run_words, written_by};
+use outside_io::MemorySink;
 use std::alloc::AllocError;
 use std::process::Abort;
 use std::test::Fail;
-use top_call::{run, status};
+use top_call::status;
 
 #[test]
 fn no_word_is_refused(rt: HostRuntime) -> Result<(), Fail> {
-    let alloc = rt.alloc();
-    let mut shelf = MemoryShelf::make(alloc)?;
-    let mut out = MemorySink::make(alloc, 100)?;
-    let outcome = run(alloc, &[], &mut shelf, &mut out);
-    assert_eq!(rt; out.written(), b"error usage nocommand\n".as_slice());
-    assert_eq!(rt; status(&outcome), 2);
+    let mut out = MemorySink::make(rt.alloc(), 100)?;
+    let found = status(&run_words(rt.alloc(), &[], &mut out)?);
+    expect(&out, b"error usage nocommand\n", found, 2, "no word", &rt);
     Ok(())
 }
 

@@ -1,5 +1,0 @@
-pub mod SmallCauses
-pub mod SmallCounted
-pub mod SmallOutputs
-pub mod SmallResolved
-pub mod SmallStatuses

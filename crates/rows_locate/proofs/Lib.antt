@@ -1,0 +1,2 @@
+mod PositionLaws
+mod SmallAnswers

@@ -1,0 +1,7 @@
+pub mod EndLaws
+pub mod ProductLaws
+pub mod SmallCauses
+pub mod SmallCounted
+pub mod SmallOutputs
+pub mod SmallResolved
+pub mod SmallStatuses

@@ -1,0 +1,59 @@
+-- What a product says where the words and the bytes of the file are known.
+use Rattle.std.specs.Prelude.{◌≡◌, ℕ, ℤ, List, Ok, Some, ⊤}
+use Rattle.std.specs.declared.option.Option.{Option}
+use Rattle.catalogue.specs.Choice.{chosen}
+use Rattle.catalogue.specs.declared.entry.Entry.{Entry}
+use Rattle.decimals.specs.Decimal.{DecimalRecord, value}
+use Rattle.elements.specs.Window.{WindowRecord}
+use Rattle.pass_words.specs.Words.{words_value}
+use Rattle.pass_words.specs.declared.part.Part.{Part}
+use Rattle.pass_words.specs.declared.request.Request.{Request}
+use Rattle.pass_words.specs.declared.request.Request.TheVariants as requests
+use Rattle.sat_locate.specs.Found.{IsAnswerFor, locate_record}
+use Rattle.sat_locate.specs.declared.found.LocAnswer.{LocAnswer}
+use Rattle.sgp4_model.specs.Certified.{IsCertified}
+use Rattle.sgp4_model.specs.DaySolution.{day_track}
+use Rattle.top_call.specs.Day.{DayRecord}
+use Rattle.top_call.specs.Outcome.{IsProductOf}
+use Rattle.top_call.specs.declared.outcome.Product.{Product}
+use Rattle.top_call.specs.declared.outcome.Product.TheVariants.{Day, Shown, Located}
+
+-- the product is of the command that the request is of
+abbrev pub IsOfCommand : Request → Product → Type 0
+IsOfCommand (requests.Day lat lon window) (Day day) = ⊤
+IsOfCommand (requests.Day lat lon window) (Shown entries) = ⊥
+IsOfCommand (requests.Day lat lon window) (Located answer) = ⊥
+IsOfCommand (requests.Show catalogue start) (Day day) = ⊥
+IsOfCommand (requests.Show catalogue start) (Shown entries) = ⊤
+IsOfCommand (requests.Show catalogue start) (Located answer) = ⊥
+IsOfCommand (requests.Locate catalogue number at) (Day day) = ⊥
+IsOfCommand (requests.Locate catalogue number at) (Shown entries) = ⊥
+IsOfCommand (requests.Locate catalogue number at) (Located answer) = ⊤
+
+-- a product is of the command that the words give
+abbrev pub ProductsAreOfTheirCommand : Type 0
+ProductsAreOfTheirCommand =
+    (held : List ℕ → Option (List ℕ)) (words : List (List ℕ)) (request : Request) (product : Product) →
+    words_value words ≡ Ok request → IsProductOf held words product → IsOfCommand request product
+
+-- daylight has the window of the words, and is certified for their place
+abbrev pub DaylightIsCertified : Type 0
+DaylightIsCertified =
+    (held : List ℕ → Option (List ℕ)) (words : List (List ℕ)) (lat lon : DecimalRecord) (window : WindowRecord) (day : DayRecord) →
+    words_value words ≡ Ok (requests.Day lat lon window) → IsProductOf held words (Day day) →
+    (day.window ≡ window) ×
+    IsCertified (day_track (value lat) (value lon) window.start window.ticks) window.resolution 1_048_576 0 day.answer day.list
+
+-- shown satellites are the chosen ones of the file's bytes, for the start of the words
+abbrev pub ShownSatellitesAreChosen : Type 0
+ShownSatellitesAreChosen =
+    (bytes : List ℕ) (words : List (List ℕ)) (catalogue : Part) (start : ℤ) (entries : List Entry) →
+    words_value words ≡ Ok (requests.Show catalogue start) → IsProductOf (λ _. Some bytes) words (Shown entries) →
+    chosen bytes start ≡ Ok entries
+
+-- what is located is the answer for the number and the instant of the words, of the chosen satellites of the file's bytes
+abbrev pub LocatedSatellitesAreAnswers : Type 0
+LocatedSatellitesAreAnswers =
+    (bytes : List ℕ) (words : List (List ℕ)) (catalogue : Part) (number : ℕ) (at : ℤ) (answer : LocAnswer) →
+    words_value words ≡ Ok (requests.Locate catalogue number at) → IsProductOf (λ _. Some bytes) words (Located answer) →
+    (entries : List Entry) × (chosen bytes at ≡ Ok entries) × IsAnswerFor entries number at (locate_record answer)
