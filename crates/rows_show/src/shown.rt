@@ -1,36 +1,81 @@
 use crate::calls::{run_over, words_of, writes};
 use crate::files::{
-    BOTH, BOTH_SHOWN, LETTERED, LETTERED_SHOWN, MESSAGE, MESSAGE_SHOWN, NAMED, NAMED_SHOWN, TWICE,
-    TWICE_SHOWN, VANGUARD, VANGUARD_SHOWN, WORDS,
+    LETTERED1, LETTERED2, MESSAGE, STATION_SET, STATION1, STATION2, VANGUARD, VANGUARD_SET,
+    VANGUARD1, VANGUARD2, WORDS,
 };
 use catalogue::Catalogue;
-use elements::Text;
 use outside_io::{MemorySink, NeverFailShelf, NeverFailSink};
-use std::alloc::Global;
+use std::alloc::{AllocError, Global};
+use std::process::Abort;
 use std::test::Fail;
 use top_call::{Outcome, Product, run_for_nobody, status};
 
+/// These pieces behind one another.
+fn joined(alloc: Global, pieces: &[&[u8]]) -> Result<Vec<u8>, AllocError> {
+    let mut bytes = Vec::new(alloc);
+    for piece in pieces {
+        bytes.extend_from_slice(piece)?;
+    }
+    Ok(bytes)
+}
+
+/// The words of a line show a file of these pieces as these, between the first and the last line.
+fn shows(
+    line: &str,
+    file: &[&[u8]],
+    sets: &[&[u8]],
+    rt: &(impl Abort + AllocGlobal),
+) -> Result<(), AllocError> {
+    let file = joined(rt.alloc(), file)?;
+    let mut wanted = joined(rt.alloc(), &[b"PASSSHOW 1\n"])?;
+    wanted.extend_from_slice(joined(rt.alloc(), sets)?.as_slice())?;
+    wanted.extend_from_slice(b"END\n")?;
+    writes(line, file.as_slice(), wanted.as_slice(), 0, rt)
+}
+
 #[test]
 fn the_sets_of_a_file_are_printed(rt: HostRuntime) -> Result<(), Fail> {
-    writes(WORDS, VANGUARD, VANGUARD_SHOWN, 0, &rt)?;
-    writes(
-        "show --start 2000-06-28T00:00:00.000000001 --catalogue a",
-        VANGUARD,
-        VANGUARD_SHOWN,
-        0,
+    let vanguard: &[&[u8]] = &[b"SET 5 ", VANGUARD_SET, b"-\n"];
+    shows(WORDS, &[VANGUARD], vanguard, &rt)?;
+    let other = "show --start 2000-06-28T00:00:00.000000001 --catalogue a";
+    shows(other, &[VANGUARD], vanguard, &rt)?;
+    shows(
+        WORDS,
+        &[b"\n0 VANGUARD 1\n", VANGUARD1, b"\n", VANGUARD2],
+        &[b"SET 5 ", VANGUARD_SET, b"VANGUARD 1\n"],
         &rt,
     )?;
-    writes(WORDS, NAMED, NAMED_SHOWN, 0, &rt)?;
-    writes(WORDS, LETTERED, LETTERED_SHOWN, 0, &rt)?;
-    writes(
+    shows(
+        WORDS,
+        &[LETTERED1, LETTERED2],
+        &[b"SET 100005 ", VANGUARD_SET, b"-\n"],
+        &rt,
+    )?;
+    shows(
         "show --catalogue=a --start=2008-09-20T00:00:00Z",
-        MESSAGE,
-        MESSAGE_SHOWN,
-        0,
+        &[MESSAGE],
+        &[b"SET 25544 ", STATION_SET, b"ISS (ZARYA)\n"],
         &rt,
     )?;
-    writes(WORDS, BOTH, BOTH_SHOWN, 0, &rt)?;
-    writes(WORDS, TWICE, TWICE_SHOWN, 0, &rt)?;
+    // Two satellites, and one twice, under two names: the first of them is told.
+    shows(
+        WORDS,
+        &[STATION1, STATION2, VANGUARD],
+        &[
+            b"SET 25544 ",
+            STATION_SET,
+            b"-\nSET 5 ",
+            VANGUARD_SET,
+            b"-\n",
+        ],
+        &rt,
+    )?;
+    shows(
+        WORDS,
+        &[b"First\n", VANGUARD, b"Second\n", VANGUARD],
+        &[b"SET 5 ", VANGUARD_SET, b"First\n"],
+        &rt,
+    )?;
     Ok(())
 }
 
@@ -61,27 +106,21 @@ fn the_product_is_the_catalogue(rt: HostRuntime) -> Result<(), Fail> {
     Ok(())
 }
 
-/// A run of these words over such a shelf and such an output.
-fn run_safely(
-    alloc: Global,
-    words: &[Text],
-    shelf: &mut NeverFailShelf,
-    out: &mut NeverFailSink,
-) -> Outcome {
-    run_for_nobody(alloc, words, shelf, out)
+/// What becomes of the words that ask for the file `a` over what never fails, where a file of this name has these bytes.
+fn run_safely(alloc: Global, name: &[u8], bytes: &[u8]) -> Result<Outcome, AllocError> {
+    let words = words_of(alloc, WORDS.as_bytes())?;
+    let mut shelf = NeverFailShelf::make(alloc)?;
+    shelf.add(name, bytes)?;
+    let mut out = NeverFailSink::make();
+    Ok(run_for_nobody(alloc, words.as_slice(), &mut shelf, &mut out))
 }
 
 #[test]
 fn over_what_never_fails_a_run_is_done(rt: HostRuntime) -> Result<(), Fail> {
-    let alloc = rt.alloc();
-    let words = words_of(alloc, WORDS.as_bytes())?;
-    let mut shelf = NeverFailShelf::make(alloc)?;
-    let mut out = NeverFailSink::make();
     // A file that was not added is there, and has no bytes.
-    let empty = run_safely(alloc, words.as_slice(), &mut shelf, &mut out);
+    let empty = run_safely(rt.alloc(), b"b", VANGUARD)?;
     assert_eq!(rt; status(&empty), 4);
-    shelf.add(b"a", VANGUARD)?;
-    let outcome = run_safely(alloc, words.as_slice(), &mut shelf, &mut out);
+    let outcome = run_safely(rt.alloc(), b"a", VANGUARD)?;
     assert_eq!(rt; number_shown(&outcome), Some(5));
     Ok(())
 }
