@@ -1,14 +1,14 @@
-use crate::calls::{run_over, words_of, writes};
+use crate::calls::{run_over, writes};
 use crate::files::{
     LETTERED1, LETTERED2, MESSAGE, STATION_SET, STATION1, STATION2, VANGUARD, VANGUARD_SET,
     VANGUARD1, VANGUARD2, WORDS,
 };
 use catalogue::Catalogue;
-use outside_io::{MemorySink, NeverFailShelf, NeverFailSink};
+use outside_io::MemorySink;
 use std::alloc::{AllocError, Global};
 use std::process::Abort;
 use std::test::Fail;
-use top_call::{Outcome, Product, run_for_nobody, status};
+use top_call::{Outcome, Product};
 
 /// These pieces behind one another.
 fn joined(alloc: Global, pieces: &[&[u8]]) -> Result<Vec<u8>, AllocError> {
@@ -102,25 +102,6 @@ fn number_shown(outcome: &Outcome) -> Option<u32> {
 fn the_product_is_the_catalogue(rt: HostRuntime) -> Result<(), Fail> {
     let mut out = MemorySink::make(rt.alloc(), 1000)?;
     let outcome = run_over(rt.alloc(), WORDS.as_bytes(), VANGUARD, &mut out)?;
-    assert_eq!(rt; number_shown(&outcome), Some(5));
-    Ok(())
-}
-
-/// What becomes of the words that ask for the file `a` over what never fails, where a file of this name has these bytes.
-fn run_safely(alloc: Global, name: &[u8], bytes: &[u8]) -> Result<Outcome, AllocError> {
-    let words = words_of(alloc, WORDS.as_bytes())?;
-    let mut shelf = NeverFailShelf::make(alloc)?;
-    shelf.add(name, bytes)?;
-    let mut out = NeverFailSink::make();
-    Ok(run_for_nobody(alloc, words.as_slice(), &mut shelf, &mut out))
-}
-
-#[test]
-fn over_what_never_fails_a_run_is_done(rt: HostRuntime) -> Result<(), Fail> {
-    // A file that was not added is there, and has no bytes.
-    let empty = run_safely(rt.alloc(), b"b", VANGUARD)?;
-    assert_eq!(rt; status(&empty), 4);
-    let outcome = run_safely(rt.alloc(), b"a", VANGUARD)?;
     assert_eq!(rt; number_shown(&outcome), Some(5));
     Ok(())
 }
