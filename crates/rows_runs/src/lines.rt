@@ -10,11 +10,16 @@ use top_call::{Outcome, run, status};
 pub(crate) const VANGUARD: &[u8] =
     b"1 00005U 58002B   00179.78495062  .00000023  00000-0  28098-4 0  4753\n2 00005  34.2682 348.7242 1859667 331.7664  19.3264 10.82419157413667\n";
 
+/// Adds a file.
+fn add(shelf: &mut MemoryShelf, name: &[u8], bytes: &[u8]) -> Result<(), AllocError> {
+    shelf.add(name, bytes)
+}
+
 /// A shelf with that file as `a` and an empty one as `b`.
 fn shelf_of_two(alloc: Global) -> Result<MemoryShelf, AllocError> {
     let mut shelf = MemoryShelf::make(alloc)?;
-    shelf.add(b"a", VANGUARD)?;
-    shelf.add(b"b", b"")?;
+    add(&mut shelf, b"a", VANGUARD)?;
+    add(&mut shelf, b"b", b"")?;
     Ok(shelf)
 }
 

@@ -6,11 +6,17 @@ use std::alloc::{AllocError, Global};
 use std::test::Fail;
 use top_call::{Outcome, Product, run_for_nobody, status};
 
+/// A shelf that holds a published set in a file of this name.
+fn shelf_of(alloc: Global, name: &[u8]) -> Result<NeverFailShelf, AllocError> {
+    let mut shelf = NeverFailShelf::make(alloc)?;
+    shelf.add(name, VANGUARD)?;
+    Ok(shelf)
+}
+
 /// What becomes of words that ask for the satellites of the file `a`, where a file of this name holds a published set.
 fn run_safely(alloc: Global, name: &[u8]) -> Result<Outcome, AllocError> {
     let words = words_of(alloc, b"show --catalogue=a --start=2000-06-28T00:00:00Z")?;
-    let mut shelf = NeverFailShelf::make(alloc)?;
-    shelf.add(name, VANGUARD)?;
+    let mut shelf = shelf_of(alloc, name)?;
     let mut out = NeverFailSink::make();
     Ok(run_for_nobody(alloc, words.as_slice(), &mut shelf, &mut out))
 }
