@@ -1,10 +1,8 @@
-use crate::calls::{run_line, words_of, writes};
-use outside_io::{MemorySink, NeverFailShelf, NeverFailSink};
+use crate::calls::{run_line, writes};
+use outside_io::MemorySink;
 use sgp4_model::{Mark, Span};
-use std::alloc::AllocError;
-use std::process::Abort;
 use std::test::Fail;
-use top_call::{DayResult, Outcome, Product, run_for_nobody};
+use top_call::{DayResult, Outcome, Product};
 
 /// An hour in ticks.
 const HOUR: u64 = 36_000_000;
@@ -101,33 +99,5 @@ fn light_and_night_alternate_through_ten_days(rt: HostRuntime) -> Result<(), Fai
         _ => None,
     };
     assert_eq!(rt; spans, Some(41));
-    Ok(())
-}
-
-/// A run of the words of a line over what never fails is done.
-fn is_done(line: &[u8], rt: &(impl Abort + AllocGlobal)) -> Result<(), AllocError> {
-    let alloc = rt.alloc();
-    let words = words_of(alloc, line)?;
-    let mut shelf = NeverFailShelf::make(alloc)?;
-    let mut out = NeverFailSink::make();
-    let outcome = run_for_nobody(alloc, words.as_slice(), &mut shelf, &mut out);
-    let is_done = match &outcome {
-        Outcome::Done { .. } => true,
-        _ => false,
-    };
-    assert!(rt; is_done, "{line:?}");
-    Ok(())
-}
-
-#[test]
-fn over_what_never_fails_a_run_is_done(rt: HostRuntime) -> Result<(), Fail> {
-    is_done(
-        b"day --lat=90 --lon=0 --start=2000-06-21T00:00:00Z --end=2000-06-21T01:00:00Z --res=1",
-        &rt,
-    )?;
-    is_done(
-        b"day --lat=-48.1 --lon=300.5 --start=2056-12-21T00:00:00Z --end=2056-12-31T00:00:00Z --res=60",
-        &rt,
-    )?;
     Ok(())
 }

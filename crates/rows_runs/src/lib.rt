@@ -15,8 +15,6 @@ mod calls;
 mod given;
 #[cfg(test)]
 mod lines;
-#[cfg(test)]
-mod nobody;
 
 /// The exit status of each kind of outcome.
 pub fn small_statuses()

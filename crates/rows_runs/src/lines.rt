@@ -7,7 +7,7 @@ use std::test::Fail;
 use top_call::{Outcome, run, status};
 
 /// A published set, as a file.
-pub(crate) const VANGUARD: &[u8] =
+const VANGUARD: &[u8] =
     b"1 00005U 58002B   00179.78495062  .00000023  00000-0  28098-4 0  4753\n2 00005  34.2682 348.7242 1859667 331.7664  19.3264 10.82419157413667\n";
 
 /// Adds a file.
