@@ -1,2 +1,3 @@
+mod AnomalyLemmas
 mod GuardLemmas
 mod SecularLemmas

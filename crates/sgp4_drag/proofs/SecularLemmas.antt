@@ -4,35 +4,41 @@ use Rattle.exact.specs.Rational.{ℚ, ◌+ℚ◌, ◌-ℚ◌, ◌*ℚ◌, ◌^�
 use Rattle.exact.proofs.RationalRing.{ring, reads}
 use Rattle.exact.proofs.Order.{le_refl}
 use Rattle.exact.proofs.Strict.{le_of_lt}
+use Rattle.fixed_iv.specs.Arithmetic.{exact}
 use Rattle.fixed_iv.specs.Common.{IsGreater}
 use Rattle.sgp4_model.specs.MeanElements.{least_ecc}
 use Rattle.sgp4_shape.specs.Covering.{unit_minutes}
+use Rattle.sgp4_drag.specs.Lines.{decayed, drag_correction, drag_factor, grown, longitude_gain, node, semimajor_axis}
 
-pub rate_is : (a b x : ℚ) → a +ℚ unit_minutes 1 *ℚ b *ℚ x ≡ a +ℚ b *ℚ (unit_minutes 1 *ℚ x)
-rate_is a b x = ring (a ∷ b ∷ x ∷ []) (search reads depth 60) tt
+module _ (x : ℚ) where
+  -- minutes
+  abbrev t : ℚ
+  t = unit_minutes 1 *ℚ x
 
-pub node_is : (a b c x : ℚ) → a +ℚ unit_minutes 1 *ℚ b *ℚ x +ℚ unit_minutes 2 *ℚ c *ℚ (x *ℚ x) ≡ a +ℚ b *ℚ (unit_minutes 1 *ℚ x) +ℚ c *ℚ (unit_minutes 1 *ℚ x) ^ℚ 2
-node_is a b c x = ring (a ∷ b ∷ c ∷ x ∷ []) (search reads depth 90) tt
+  pub rate_is : (a b : ℚ) → grown exact a (unit_minutes 1 *ℚ b) x ≡ grown exact a b t
+  rate_is a b = ring (a ∷ b ∷ x ∷ []) (search reads depth 60) tt
 
-pub correction_is : (w m n d c x : ℚ) →
-    unit_minutes 1 *ℚ w *ℚ x +ℚ m *ℚ ((one_ℚ +ℚ n *ℚ c) *ℚ (one_ℚ +ℚ n *ℚ c) *ℚ (one_ℚ +ℚ n *ℚ c) -ℚ d) ≡
-    w *ℚ (unit_minutes 1 *ℚ x) +ℚ m *ℚ ((one_ℚ +ℚ n *ℚ c) ^ℚ 3 -ℚ d)
-correction_is w m n d c x = ring (w ∷ m ∷ n ∷ d ∷ c ∷ x ∷ []) (search reads depth 120) tt
+  pub node_is : (a b c : ℚ) → node exact a (unit_minutes 1 *ℚ b) (unit_minutes 2 *ℚ c) x (x *ℚ x) ≡ node exact a b c t (t ^ℚ 2)
+  node_is a b c = ring (a ∷ b ∷ c ∷ x ∷ []) (search reads depth 90) tt
 
-pub factor_is : (c1 d2 d3 d4 x : ℚ) →
-    one_ℚ -ℚ unit_minutes 1 *ℚ c1 *ℚ x -ℚ unit_minutes 2 *ℚ d2 *ℚ (x *ℚ x) -ℚ unit_minutes 3 *ℚ d3 *ℚ (x *ℚ x *ℚ x) -ℚ unit_minutes 4 *ℚ d4 *ℚ (x *ℚ x *ℚ (x *ℚ x)) ≡
-    one_ℚ -ℚ c1 *ℚ (unit_minutes 1 *ℚ x) -ℚ d2 *ℚ (unit_minutes 1 *ℚ x) ^ℚ 2 -ℚ d3 *ℚ (unit_minutes 1 *ℚ x) ^ℚ 3 -ℚ d4 *ℚ (unit_minutes 1 *ℚ x) ^ℚ 4
-factor_is c1 d2 d3 d4 x = ring (c1 ∷ d2 ∷ d3 ∷ d4 ∷ x ∷ []) (search reads depth 200) tt
+  pub correction_is : (w m n d c : ℚ) →
+      drag_correction exact (unit_minutes 1 *ℚ w) m n d c x ≡ w *ℚ t +ℚ m *ℚ ((one_ℚ +ℚ n *ℚ c) ^ℚ 3 -ℚ d)
+  correction_is w m n d c = ring (w ∷ m ∷ n ∷ d ∷ c ∷ x ∷ []) (search reads depth 120) tt
 
-pub decay_is : (b c4 c5 n s x : ℚ) → b *ℚ (unit_minutes 1 *ℚ c4) *ℚ x +ℚ b *ℚ c5 *ℚ (s -ℚ n) ≡ b *ℚ c4 *ℚ (unit_minutes 1 *ℚ x) +ℚ b *ℚ c5 *ℚ (s -ℚ n)
-decay_is b c4 c5 n s x = ring (b ∷ c4 ∷ c5 ∷ n ∷ s ∷ x ∷ []) (search reads depth 90) tt
+  pub factor_is : (c1 d2 d3 d4 : ℚ) →
+      drag_factor exact (unit_minutes 1 *ℚ c1) (unit_minutes 2 *ℚ d2) (unit_minutes 3 *ℚ d3) (unit_minutes 4 *ℚ d4) x (x *ℚ x) (x *ℚ x *ℚ x) (x *ℚ x *ℚ (x *ℚ x)) ≡
+      drag_factor exact c1 d2 d3 d4 t (t ^ℚ 2) (t ^ℚ 3) (t ^ℚ 4)
+  factor_is c1 d2 d3 d4 = ring (c1 ∷ d2 ∷ d3 ∷ d4 ∷ x ∷ []) (search reads depth 200) tt
 
-pub longitude_is : (m n t2 t3 t4 t5 x : ℚ) →
-    m +ℚ unit_minutes 1 *ℚ n *ℚ (unit_minutes 1 *ℚ t2 *ℚ (x *ℚ x) +ℚ unit_minutes 2 *ℚ t3 *ℚ (x *ℚ x *ℚ x) +ℚ x *ℚ x *ℚ (x *ℚ x) *ℚ (unit_minutes 3 *ℚ t4 +ℚ x *ℚ (unit_minutes 4 *ℚ t5))) ≡
-    m +ℚ n *ℚ (t2 *ℚ (unit_minutes 1 *ℚ x) ^ℚ 2 +ℚ t3 *ℚ (unit_minutes 1 *ℚ x) ^ℚ 3 +ℚ (unit_minutes 1 *ℚ x) ^ℚ 4 *ℚ (t4 +ℚ unit_minutes 1 *ℚ x *ℚ t5))
-longitude_is m n t2 t3 t4 t5 x = ring (m ∷ n ∷ t2 ∷ t3 ∷ t4 ∷ t5 ∷ x ∷ []) (search reads depth 200) tt
+  pub decay_is : (e b c4 c5 n s : ℚ) → decayed exact e b (unit_minutes 1 *ℚ c4) c5 n s x ≡ decayed exact e b c4 c5 n s t
+  decay_is e b c4 c5 n s = ring (e ∷ b ∷ c4 ∷ c5 ∷ n ∷ s ∷ x ∷ []) (search reads depth 90) tt
 
-pub square_is : (a b : ℚ) → a *ℚ (b *ℚ b) ≡ a *ℚ b ^ℚ 2
+  pub longitude_is : (m n t2 t3 t4 t5 : ℚ) →
+      m +ℚ unit_minutes 1 *ℚ n *ℚ longitude_gain exact (unit_minutes 1 *ℚ t2) (unit_minutes 2 *ℚ t3) (unit_minutes 3 *ℚ t4) (unit_minutes 4 *ℚ t5) x (x *ℚ x) (x *ℚ x *ℚ x) (x *ℚ x *ℚ (x *ℚ x)) ≡
+      m +ℚ n *ℚ longitude_gain exact t2 t3 t4 t5 t (t ^ℚ 2) (t ^ℚ 3) (t ^ℚ 4)
+  longitude_is m n t2 t3 t4 t5 = ring (m ∷ n ∷ t2 ∷ t3 ∷ t4 ∷ t5 ∷ x ∷ []) (search reads depth 200) tt
+
+pub square_is : (a b : ℚ) → semimajor_axis exact a b ≡ a *ℚ b ^ℚ 2
 square_is a b = ring (a ∷ b ∷ []) (search reads depth 40) tt
 
 by_test : {P : Type 0} (t : Bool) → (T t → P) → (T (not t) → P) → P

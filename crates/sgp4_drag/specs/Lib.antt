@@ -1,3 +1,4 @@
 pub mod Guard
-pub mod Numerals
+pub mod Lines
+pub mod Raised
 pub mod Secular

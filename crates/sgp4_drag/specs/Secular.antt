@@ -1,57 +1,72 @@
 -- What numerals say of the mean elements, from those of the constants and of the time; and when there are none.
 use Rattle.std.specs.Prelude.{Bool}
 use Rattle.exact.specs.Rational.{ℚ, ◌*ℚ◌}
+use Rattle.fixed_iv.specs.Arithmetic.{numerals}
 use Rattle.fixed_iv.specs.Extent.{Extent}
+use Rattle.fixed_iv.specs.Follows.{Encloses}
 use Rattle.fixed_iv.specs.Place.{Place}
 use Rattle.fixed_iv.specs.Reach.{Reach, IsHeld, ◌+ᴿ◌, ◌-ᴿ◌, ◌*ᴿ◌, greater_of, turned}
+use Rattle.fixed_iv.specs.declared.enc.Enc.{Ghosts}
 use Rattle.sgp4_model.specs.Angle.{IsPi}
-use Rattle.sgp4_model.specs.MeanElements.{IsMeanUnguarded, SecularRecord}
+use Rattle.sgp4_model.specs.MeanElements.{IsMean, IsMeanUnguarded, SecularRecord}
 use Rattle.sgp4_model.specs.OrbitRecords.{ConstRecord, MeanRecord}
 use Rattle.sgp4_shape.specs.declared.consts.Consts.{Consts}
-use Rattle.sgp4_shape.specs.Covering.{unit_minutes}
+use Rattle.sgp4_shape.specs.declared.mean.Mean.{Mean}
+use Rattle.sgp4_shape.specs.Covering.{CoversConsts, CoversMean, unit_minutes}
 use Rattle.sgp4_shape.specs.HeldConsts.{ConstReach, IsHeldConsts}
-use Rattle.sgp4_shape.specs.HeldMean.{MeanReach}
+use Rattle.sgp4_shape.specs.HeldMean.{IsHeldMean, MeanReach}
 use Rattle.sgp4_drag.specs.Guard.{IsInsideGuard}
-use Rattle.sgp4_drag.specs.Numerals.{exactly_one, least_eccentricity}
+use Rattle.sgp4_drag.specs.Lines.{decayed, drag_correction, drag_factor, grown, longitude_gain, node, semimajor_axis}
+use Rattle.sgp4_drag.specs.Raised.{least_eccentricity}
 
 module _ (r : ConstReach) (t : Reach) where
-  -- the mean anomaly without drag
+  -- the mean anomaly without drag, the correction by drag, and the mean anomaly with it
   abbrev pub reach_mf : Reach
-  reach_mf = r.m0 +ᴿ r.mdot *ᴿ t
+  reach_mf = grown numerals r.m0 r.mdot t
 
-  -- 1 + eta cos M
-  abbrev pub reach_base : Reach
-  reach_base = exactly_one +ᴿ r.eta *ᴿ turned reach_mf
-
-  -- the correction by drag
   abbrev pub reach_g : Reach
-  reach_g = r.omgcof *ᴿ t +ᴿ r.xmcof *ᴿ (reach_base *ᴿ reach_base *ᴿ reach_base -ᴿ r.delmo)
+  reach_g = drag_correction numerals r.omgcof r.xmcof r.eta r.delmo (turned reach_mf) t
 
-  -- the mean anomaly with drag's correction
   abbrev pub reach_mm : Reach
   reach_mm = reach_mf +ᴿ reach_g
 
   -- the eccentricity before it is raised
   abbrev pub reach_ecc : Reach
-  reach_ecc = r.e -ᴿ (r.bstar *ᴿ r.c4 *ᴿ t +ᴿ r.bstar *ᴿ r.c5 *ᴿ (turned reach_mm -ᴿ r.sin_m0))
-
-  -- the drag factor
-  abbrev pub reach_tempa : Reach
-  reach_tempa = exactly_one -ᴿ r.c1 *ᴿ t -ᴿ r.d2 *ᴿ (t *ᴿ t) -ᴿ r.d3 *ᴿ (t *ᴿ t *ᴿ t) -ᴿ r.d4 *ᴿ (t *ᴿ t *ᴿ (t *ᴿ t))
-
-  -- what drag adds to the mean longitude, over the mean motion
-  abbrev pub reach_templ : Reach
-  reach_templ = r.t2cof *ᴿ (t *ᴿ t) +ᴿ r.t3cof *ᴿ (t *ᴿ t *ᴿ t) +ᴿ t *ᴿ t *ᴿ (t *ᴿ t) *ᴿ (r.t4cof +ᴿ t *ᴿ r.t5cof)
+  reach_ecc = decayed numerals r.e r.bstar r.c4 r.c5 r.sin_m0 (turned reach_mm) t
 
   -- the mean elements
   abbrev pub reach_mean : MeanReach
-  reach_mean = record {
-    am = r.a *ᴿ (reach_tempa *ᴿ reach_tempa);
-    em = greater_of reach_ecc least_eccentricity;
-    ml = reach_mm +ᴿ r.n0 *ᴿ reach_templ;
-    wm = r.w0 +ᴿ r.wdot *ᴿ t -ᴿ reach_g;
-    om = r.o0 +ᴿ r.odot *ᴿ t +ᴿ r.nodecf *ᴿ (t *ᴿ t);
-  }
+  reach_mean =
+      let t2 = t *ᴿ t in
+      let t3 = t2 *ᴿ t in
+      let t4 = t2 *ᴿ t2 in
+      record {
+        am = semimajor_axis numerals r.a (drag_factor numerals r.c1 r.d2 r.d3 r.d4 t t2 t3 t4);
+        em = greater_of reach_ecc least_eccentricity;
+        ml = reach_mm +ᴿ r.n0 *ᴿ longitude_gain numerals r.t2cof r.t3cof r.t4cof r.t5cof t t2 t3 t4;
+        wm = grown numerals r.w0 r.wdot t -ᴿ reach_g;
+        om = node numerals r.o0 r.odot r.nodecf t t2;
+      }
+
+module _ {A : Type 0} (E : Ghosts A) (consts : Consts A) (t : A) where
+  -- the mean elements are covered, of all constants and times that are
+  abbrev pub CoversEachMean : Mean A → Type 0
+  CoversEachMean mean =
+      (h : Place) (pi x : ℚ) (k : ConstRecord) (m : MeanRecord) → CoversConsts E.covers consts k → E.covers t h x → IsPi pi →
+      IsMean k pi (unit_minutes 1 *ℚ x) m → CoversMean E.covers mean h m
+
+  -- numerals for them follow from those of the constants and of the time
+  abbrev pub HoldsEachMean : Mean A → Type 0
+  HoldsEachMean mean =
+      (h : Place) (pi x : ℚ) (k : ConstRecord) (m : MeanRecord) (r : ConstReach) (n : Reach) →
+      IsHeldConsts E.covers E.extent E.tells consts h k r → Encloses E t h x n → IsPi pi →
+      IsMean k pi (unit_minutes 1 *ℚ x) m → IsHeldMean E.covers E.extent E.tells mean h m (reach_mean r n)
+
+  -- there are mean elements, of all constants and times that are covered
+  abbrev pub EachMeanExists : Type 0
+  EachMeanExists =
+      (h : Place) (pi x : ℚ) (k : ConstRecord) → CoversConsts E.covers consts k → E.covers t h x → IsPi pi →
+      (m : MeanRecord) × IsMean k pi (unit_minutes 1 *ℚ x) m
 
 -- some enclosure of the eccentricity before it is raised, as narrow as its equations give, is not inside the guard
 pub record IsOutOfGuard {A : Type 0} (covers : A → Place → ℚ → Type 0) (extent : A → Extent) (told : Bool) (consts : Consts A) (t : A) : Type 0 where

@@ -1,12 +1,7 @@
 //! The guard on the eccentricity, and its least value.
 ghost use Rattle.std.specs.Prelude.{◌↔◌, IsTrue};
-ghost use Rattle.exact.specs.Rational.{ℚ};
-ghost use Rattle.fixed_iv.specs.Common.{IsGreater};
-ghost use Rattle.fixed_iv.specs.Place.{Place};
-ghost use Rattle.fixed_iv.specs.Reach.{Reach, IsHeld, greater_of};
-ghost use Rattle.sgp4_model.specs.MeanElements.{least_ecc};
 ghost use Rattle.sgp4_drag.specs.Guard.{IsInsideGuard};
-ghost use Rattle.sgp4_drag.specs.Numerals.{least_eccentricity};
+ghost use Rattle.sgp4_drag.specs.Raised.{IsRaised};
 
 use fixed_iv::{Enc, Iv};
 
@@ -19,7 +14,7 @@ pub(crate) fn is_guarded(bounds: Iv) -> bool
 
 /// The eccentricity, raised to 0.000001 where it is smaller.
 pub(crate) fn raised<E: Enc>(ecc: E) -> E
-    ensures { (h : Place) (x z : ℚ) (r : Reach) → IsHeld E.covers E.extent E.tells ecc h x r → IsGreater x least_ecc z → IsHeld E.covers E.extent E.tells result h z (greater_of r least_eccentricity) }
+    ensures { IsRaised E.Enc ecc result }
 {
     ecc.max_const(Iv::from_ratio(1, 1_000_000))
 }

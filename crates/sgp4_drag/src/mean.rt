@@ -1,15 +1,6 @@
 //! The mean elements.
 ghost use Rattle.std.specs.Prelude.{IfNone, IfSome};
-ghost use Rattle.exact.specs.Rational.{ℚ, ◌*ℚ◌};
-ghost use Rattle.fixed_iv.specs.Place.{Place};
-ghost use Rattle.fixed_iv.specs.Reach.{Reach, IsHeld};
-ghost use Rattle.sgp4_model.specs.Angle.{IsPi};
-ghost use Rattle.sgp4_model.specs.MeanElements.{IsMean};
-ghost use Rattle.sgp4_model.specs.OrbitRecords.{ConstRecord, MeanRecord};
-ghost use Rattle.sgp4_shape.specs.Covering.{CoversConsts, CoversMean, unit_minutes};
-ghost use Rattle.sgp4_shape.specs.HeldConsts.{ConstReach, IsHeldConsts};
-ghost use Rattle.sgp4_shape.specs.HeldMean.{IsHeldMean};
-ghost use Rattle.sgp4_drag.specs.Secular.{IsOutOfGuard, reach_mean};
+ghost use Rattle.sgp4_drag.specs.Secular.{CoversEachMean, EachMeanExists, HoldsEachMean, IsOutOfGuard};
 
 use crate::angles::{drag_correction, grown, node};
 use crate::eccentricity::{is_guarded, raised};
@@ -20,9 +11,9 @@ use sgp4_shape::{Consts, Mean};
 /// The mean elements at a time. `t` covers minutes from the epoch divided by 16,384. None where the bounds of the
 /// eccentricity, before it is raised, are not inside -0.001 <= e < 1.
 pub fn secular<E: Enc>(consts: &Consts<E>, t: E) -> Option<Mean<E>>
-    ensures covers { IfSome result (λ mean. (h : Place) (pi x : ℚ) (k : ConstRecord) (m : MeanRecord) → CoversConsts E.covers consts.now k → E.covers t h x → IsPi pi → IsMean k pi (unit_minutes 1 *ℚ x) m → CoversMean E.covers mean h m) }
-    ensures held { IfSome result (λ mean. (h : Place) (pi x : ℚ) (k : ConstRecord) (m : MeanRecord) (r : ConstReach) (n : Reach) → IsHeldConsts E.covers E.extent E.tells consts.now h k r → IsHeld E.covers E.extent E.tells t h x n → IsPi pi → IsMean k pi (unit_minutes 1 *ℚ x) m → IsHeldMean E.covers E.extent E.tells mean h m (reach_mean r n)) }
-    ensures exists { IfSome result (λ _. (h : Place) (pi x : ℚ) (k : ConstRecord) → CoversConsts E.covers consts.now k → E.covers t h x → IsPi pi → (m : MeanRecord) × IsMean k pi (unit_minutes 1 *ℚ x) m) }
+    ensures covers { IfSome result (CoversEachMean E.Enc consts.now t) }
+    ensures held { IfSome result (HoldsEachMean E.Enc consts.now t) }
+    ensures exists { IfSome result (λ _. EachMeanExists E.Enc consts.now t) }
     ensures none { IfNone result (IsOutOfGuard E.covers E.extent E.tells consts.now t) }
 {
     let k = consts;

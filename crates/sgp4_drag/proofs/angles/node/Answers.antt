@@ -1,10 +1,11 @@
-use Rattle.fixed_iv.proofs.Held.{plus_held, times_held}
+use Rattle.fixed_iv.proofs.Promises.{product, sum}
 use Rattle.sgp4_drag.proofs.angles.node.Goals as goal
 
 pub returns : goal.returns
-returns g c h _ _ _ _ _ _ _ _ _ _ start rate bend t t2 =
-    let law = g.met.E.Enc.contained in
-    let times_1 = times_held law c.times.ensures.covers c.times.ensures.narrow rate t in
-    let plus_1 = plus_held law c.plus.ensures.covers c.plus.ensures.narrow start times_1 in
-    let times_2 = times_held law c.times-2.ensures.covers c.times-2.ensures.narrow bend t2 in
-    plus_held law c.plus-2.ensures.covers c.plus-2.ensures.narrow plus_1 times_2
+returns g c = record {
+  gives = λ start rate bend t t2.
+      let law = g.met.E.Enc.contained in
+      let steady = product law c.times.ensures rate t in
+      let bent = product law c.times-2.ensures bend t2 in
+      sum law c.plus-2.ensures (sum law c.plus.ensures start steady) bent;
+}

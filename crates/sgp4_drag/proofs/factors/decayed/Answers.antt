@@ -1,13 +1,12 @@
-use Rattle.fixed_iv.proofs.Held.{minus_held, plus_held, times_held}
+use Rattle.fixed_iv.proofs.Promises.{difference, product, sum}
 use Rattle.sgp4_drag.proofs.factors.decayed.Goals as goal
 
 pub returns : goal.returns
-returns g c h _ _ _ _ _ _ _ _ _ _ _ _ _ _ e bstar c4 c5 sin_m0 sine t =
-    let law = g.met.E.Enc.contained in
-    let times_1 = times_held law c.times.ensures.covers c.times.ensures.narrow bstar c4 in
-    let secular = times_held law c.times-secular.ensures.covers c.times-secular.ensures.narrow times_1 t in
-    let times_2 = times_held law c.times-2.ensures.covers c.times-2.ensures.narrow bstar c5 in
-    let minus_1 = minus_held law c.minus.ensures.covers c.minus.ensures.narrow sine sin_m0 in
-    let periodic = times_held law c.times-periodic.ensures.covers c.times-periodic.ensures.narrow times_2 minus_1 in
-    let plus_1 = plus_held law c.plus.ensures.covers c.plus.ensures.narrow secular periodic in
-    minus_held law c.minus-2.ensures.covers c.minus-2.ensures.narrow e plus_1
+returns g c = record {
+  gives = λ e bstar c4 c5 sin_m0 sine t.
+      let law = g.met.E.Enc.contained in
+      let secular = product law c.times-secular.ensures (product law c.times.ensures bstar c4) t in
+      let change = difference law c.minus.ensures sine sin_m0 in
+      let periodic = product law c.times-periodic.ensures (product law c.times-2.ensures bstar c5) change in
+      difference law c.minus-2.ensures e (sum law c.plus.ensures secular periodic);
+}
