@@ -4,8 +4,12 @@ use Rattle.exact.specs.Rational.{ℚ, ◌*ℚ◌}
 use Rattle.fixed_iv.specs.Extent.{Extent}
 use Rattle.fixed_iv.specs.Place.{Place}
 use Rattle.fixed_iv.specs.Reach.{Reach, IsHeld, from_to}
-use Rattle.sgp4_model.specs.MeanMotion.{MotionRecord}
+use Rattle.sgp4_model.specs.Angle.{IsPi}
+use Rattle.sgp4_model.specs.MeanMotion.{IsMotionRecovered, MotionRecord}
+use Rattle.sgp4_model.specs.Records.{SetRecord}
 use Rattle.sgp4_shape.specs.Covering.{unit_minutes}
+use Rattle.fixed_iv.specs.declared.enc.Enc.{Ghosts}
+use Rattle.sgp4_motion.specs.Recovered.{CoversMotion}
 use Rattle.sgp4_motion.specs.declared.recovered.Recovered.{Recovered}
 
 -- numerals for each quantity
@@ -37,6 +41,15 @@ pub record IsHeldMotion {A : Type 0} (covers : A → Place → ℚ → Type 0) (
   pub rp : IsHeld covers extent told motion.rp h m.rp r.rp
   pub con41 : IsHeld covers extent told motion.con41 h m.con41 r.con41
   pub con42 : IsHeld covers extent told motion.con42 h m.con42 r.con42
+
+-- each recovered motion of a set is covered
+abbrev pub CoversEachMotion : {A : Type 0} → Ghosts A → SetRecord → Recovered A → Type 0
+CoversEachMotion E set motion = (pi : ℚ) (m : MotionRecord) → IsPi pi → IsMotionRecovered set pi m → CoversMotion E.covers motion m
+
+-- and its enclosure is as these numerals say
+abbrev pub HoldsEachMotion : {A : Type 0} → Ghosts A → SetRecord → MotionReach → Recovered A → Type 0
+HoldsEachMotion E set r motion =
+    (at : Place) (pi : ℚ) (m : MotionRecord) → IsPi pi → IsMotionRecovered set pi m → IsHeldMotion E.covers E.extent E.tells motion at m r
 
 -- the numerals of a recovered motion, from a mean motion between 6.3 and 17 revolutions a day
 abbrev pub reach_recovered : MotionReach

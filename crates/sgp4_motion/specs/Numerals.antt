@@ -2,10 +2,6 @@
 use Rattle.std.specs.Prelude.{ℕ, pos, ◌^◌}
 use Rattle.fixed_iv.specs.Reach.{Reach, from_to}
 
--- of a whole number
-abbrev pub exactly : ℕ → Reach
-exactly n = from_to (pos n) (pos n) 1 0
-
 -- of a number that is given by a ratio
 abbrev pub nearly : ℕ → ℕ → Reach
 nearly num den = from_to (pos num) (pos num) den 1

@@ -1,14 +1,13 @@
 //! What an element set gives, as enclosures.
-ghost use Rattle.std.specs.Prelude.{pos};
 ghost use Rattle.decimals.specs.Decimal.{value};
-ghost use Rattle.exact.specs.Rational.{ℚ, ◌*ℚ◌, ◌/ℚ◌, ◌≤ℚ◌, ratio, zero_ℚ};
+ghost use Rattle.exact.specs.Rational.{◌*ℚ◌, ◌/ℚ◌, ◌≤ℚ◌, zero_ℚ};
+ghost use Rattle.fixed_iv.specs.Follows.{Encloses, EnclosesByPi};
 ghost use Rattle.fixed_iv.specs.Place.{Place};
-ghost use Rattle.fixed_iv.specs.Reach.{IsHeld};
-ghost use Rattle.sgp4_model.specs.Angle.{IsPi};
 ghost use Rattle.sgp4_model.specs.Degrees.{radians};
 ghost use Rattle.sgp4_model.specs.Numerals.{decimal, whole};
 ghost use Rattle.sgp4_model.specs.Wgs72.{ke};
 ghost use Rattle.sgp4_shape.specs.Covering.{unit_minutes};
+ghost use Rattle.sgp4_motion.specs.Lines.{a_minute};
 ghost use Rattle.sgp4_motion.specs.Numerals.{given_axis, given_eccentricity, given_inclination, given_motion};
 
 use crate::given::{over, scaled};
@@ -19,7 +18,7 @@ use fixed_iv::Enc;
 pub(crate) fn eccentricity<E: Enc>(ecc: Decimal) -> E
     requires least { zero_ℚ ≤ℚ value ecc }
     requires most { value ecc ≤ℚ decimal 2 1 }
-    ensures { (h : Place) → IsHeld E.covers E.extent E.tells result h (value ecc) given_eccentricity }
+    ensures { (h : Place) → Encloses E.Enc result h (value ecc) given_eccentricity }
 {
     E::constant(scaled(ecc, 1, 1))
 }
@@ -28,7 +27,7 @@ pub(crate) fn eccentricity<E: Enc>(ecc: Decimal) -> E
 pub(crate) fn inclination<E: Enc>(incl: Decimal) -> E
     requires least { zero_ℚ ≤ℚ value incl }
     requires most { value incl ≤ℚ whole 175 }
-    ensures { (h : Place) (pi : ℚ) → IsPi pi → IsHeld E.covers E.extent E.tells result h (radians pi (value incl)) given_inclination }
+    ensures { EnclosesByPi E.Enc result (λ pi. radians pi (value incl)) given_inclination }
 {
     E::constant(scaled(incl, 1, 180)).times(E::pi())
 }
@@ -37,7 +36,7 @@ pub(crate) fn inclination<E: Enc>(incl: Decimal) -> E
 pub(crate) fn mean_motion<E: Enc>(motion: Decimal) -> E
     requires least { decimal 63 1 ≤ℚ value motion }
     requires most { value motion ≤ℚ whole 17 }
-    ensures { (h : Place) (pi : ℚ) → IsPi pi → IsHeld E.covers E.extent E.tells result h (unit_minutes 1 *ℚ (value motion *ℚ whole 2 *ℚ pi *ℚ ratio (pos 1) 1440)) given_motion }
+    ensures { EnclosesByPi E.Enc result (λ pi. unit_minutes 1 *ℚ a_minute pi (value motion)) given_motion }
 {
     E::constant(scaled(motion, 1_024, 45)).times(E::pi())
 }
@@ -46,7 +45,7 @@ pub(crate) fn mean_motion<E: Enc>(motion: Decimal) -> E
 pub(crate) fn axis_power<E: Enc>(motion: Decimal) -> E
     requires least { decimal 63 1 ≤ℚ value motion }
     requires most { value motion ≤ℚ whole 17 }
-    ensures { (h : Place) (pi : ℚ) → IsPi pi → IsHeld E.covers E.extent E.tells result h (ke /ℚ (value motion *ℚ whole 2 *ℚ pi *ℚ ratio (pos 1) 1440)) given_axis }
+    ensures { EnclosesByPi E.Enc result (λ pi. ke /ℚ a_minute pi (value motion)) given_axis }
 {
     E::constant(over(6_693_022_449, 125_000_000, motion)).divided(E::pi())
 }

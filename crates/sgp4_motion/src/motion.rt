@@ -1,13 +1,8 @@
 //! The recovered motion of a set, or why the set is refused.
 ghost use Rattle.std.specs.Prelude.{◌≡◌, IfErr, IfOk, T};
-ghost use Rattle.exact.specs.Rational.{ℚ};
 ghost use Rattle.elements.specs.Elements.{record_of_elements};
-ghost use Rattle.fixed_iv.specs.Place.{Place};
-ghost use Rattle.sgp4_model.specs.Angle.{IsPi};
-ghost use Rattle.sgp4_model.specs.MeanMotion.{MotionRecord, IsMotionRecovered};
 ghost use Rattle.sgp4_motion.specs.Fate.{IsBetweenLimits, IsNearEarth, IsOrdinary, IsRefusedExactly, MayRefuseSet};
-ghost use Rattle.sgp4_motion.specs.HeldMotion.{IsHeldMotion, reach_motion};
-ghost use Rattle.sgp4_motion.specs.Recovered.{CoversMotion};
+ghost use Rattle.sgp4_motion.specs.HeldMotion.{CoversEachMotion, HoldsEachMotion, reach_motion};
 
 use crate::Recovered;
 use crate::faults::shown_fault;
@@ -22,9 +17,10 @@ use sgp4_shape::SatFault;
 /// first fault.
 pub fn recover_motion<E: Enc>(set: &Elements) -> Result<Recovered<E>, SatFault>
     requires told { T E.tells }
-    ensures covers { IfOk result (λ motion. (pi : ℚ) (m : MotionRecord) → IsPi pi → IsMotionRecovered (record_of_elements set.now) pi m → CoversMotion E.covers motion m) }
-    ensures held { IfOk result (λ motion. (h : Place) (pi : ℚ) (m : MotionRecord) → IsPi pi → IsMotionRecovered (record_of_elements set.now) pi m → IsHeldMotion E.covers E.extent E.tells motion h m reach_motion) }
-    ensures ordinary { IfOk result (λ _. IsOrdinary (record_of_elements set.now) × IsBetweenLimits (record_of_elements set.now)) }
+    ensures covers { IfOk result (CoversEachMotion E.Enc (record_of_elements set.now)) }
+    ensures held { IfOk result (HoldsEachMotion E.Enc (record_of_elements set.now) reach_motion) }
+    ensures ordinary { IfOk result (λ _. IsOrdinary (record_of_elements set.now)
+        × IsBetweenLimits (record_of_elements set.now)) }
     ensures near_earth { IfOk result (λ _. IsNearEarth (record_of_elements set.now)) }
     ensures exact { IsRefusedExactly (record_of_elements set.now) (λ fault. result ≡ Err fault) }
     ensures refused { IfErr result (MayRefuseSet (record_of_elements set.now)) }

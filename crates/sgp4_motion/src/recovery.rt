@@ -1,11 +1,7 @@
 //! The recovery of the mean motion.
-ghost use Rattle.exact.specs.Rational.{ℚ};
 ghost use Rattle.elements.specs.Elements.{record_of_elements};
-ghost use Rattle.fixed_iv.specs.Place.{Place};
-ghost use Rattle.sgp4_model.specs.Angle.{IsPi};
-ghost use Rattle.sgp4_model.specs.MeanMotion.{MotionRecord, IsMotionRecovered};
 ghost use Rattle.sgp4_motion.specs.Fate.{IsBetweenLimits, IsOrdinary};
-ghost use Rattle.sgp4_motion.specs.HeldMotion.{IsHeldMotion, reach_recovered};
+ghost use Rattle.sgp4_motion.specs.HeldMotion.{HoldsEachMotion, reach_recovered};
 
 use crate::Recovered;
 use crate::inputs::{axis_power, eccentricity, inclination, mean_motion};
@@ -17,7 +13,7 @@ use fixed_iv::{Enc, Iv};
 pub(crate) fn recovered<E: Enc>(set: &Elements) -> Recovered<E>
     requires ordinary { IsOrdinary (record_of_elements set.now) }
     requires between { IsBetweenLimits (record_of_elements set.now) }
-    ensures { (h : Place) (pi : ℚ) (m : MotionRecord) → IsPi pi → IsMotionRecovered (record_of_elements set.now) pi m → IsHeldMotion E.covers E.extent E.tells result h m reach_recovered }
+    ensures { HoldsEachMotion E.Enc (record_of_elements set.now) reach_recovered result }
 {
     let one = E::constant(Iv::from_ratio(1, 1));
     let i = inclination::<E>(set.incl());

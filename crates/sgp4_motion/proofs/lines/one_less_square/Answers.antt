@@ -1,14 +1,11 @@
 use Rattle.std.proofs.Common.{pos}
-use Rattle.fixed_iv.specs.Reach.{given}
-use Rattle.fixed_iv.proofs.HeldGiven.{ratio_given}
-use Rattle.sgp4_motion.specs.Numerals.{exactly}
-use Rattle.fixed_iv.proofs.Held.{constant_held, minus_held, times_held, within}
+use Rattle.fixed_iv.proofs.Promises.{difference, number, product}
 use Rattle.sgp4_motion.proofs.lines.one_less_square.Goals as goal
 
 pub returns : goal.returns
-unfolding given
-returns g c h _ _ e =
-    let law = g.met.E.Enc.contained in
-    let one = within (exactly 1) (constant_held c.constant-one.ensures.covers c.constant-one.ensures.narrow (ratio_given (pos 1) 0 0 c.from_ratio.ensures tt tt)) tt in
-    let square = times_held law c.times.ensures.covers c.times.ensures.narrow e e in
-    minus_held law c.minus.ensures.covers c.minus.ensures.narrow one square
+returns g c = record {
+  gives = λ e.
+      let law = g.met.E.Enc.contained in
+      let one = number (pos 1) 0 0 c.constant-one.ensures c.from_ratio.ensures tt tt tt in
+      difference law c.minus.ensures one (product law c.times.ensures e e);
+}

@@ -1,15 +1,12 @@
 use Rattle.std.proofs.Common.{pos}
-use Rattle.fixed_iv.specs.Reach.{given}
-use Rattle.fixed_iv.proofs.HeldGiven.{ratio_given}
-use Rattle.sgp4_motion.specs.Numerals.{exactly, radius_km}
-use Rattle.fixed_iv.proofs.Held.{constant_held, minus_held, times_held, within}
+use Rattle.fixed_iv.proofs.Promises.{difference, number, product}
 use Rattle.sgp4_motion.proofs.lines.perigee_km.Goals as goal
 
 pub returns : goal.returns
-unfolding given
-returns g c h _ _ rp =
-    let law = g.met.E.Enc.contained in
-    let one = within (exactly 1) (constant_held c.constant-one.ensures.covers c.constant-one.ensures.narrow (ratio_given (pos 1) 0 0 c.from_ratio.ensures tt tt)) tt in
-    let radius = within radius_km (constant_held c.constant-radius.ensures.covers c.constant-radius.ensures.narrow (ratio_given (pos 6378135) 999 1 c.from_ratio-2.ensures tt tt)) tt in
-    let height = minus_held law c.minus.ensures.covers c.minus.ensures.narrow rp one in
-    times_held law c.times.ensures.covers c.times.ensures.narrow height radius
+returns g c = record {
+  gives = λ rp.
+      let law = g.met.E.Enc.contained in
+      let one = number (pos 1) 0 0 c.constant-one.ensures c.from_ratio.ensures tt tt tt in
+      let radius = number (pos 6378135) 999 1 c.constant-radius.ensures c.from_ratio-2.ensures tt tt tt in
+      product law c.times.ensures (difference law c.minus.ensures rp one) radius;
+}

@@ -21,7 +21,7 @@ returns-then-not-is_short-clause-refused g c =
     let found = some_motion _ shown.elements.ecc (le_of_not_lt shown.ordinary.not_eccentric) (le_of_lt shown.between.above) (le_of_lt shown.between.below) in
     let motion = c.recovered-motion.ensures some_place least_pi found.0 some_pi found.1 in
     let positive = mean_motion_positive (motion.n0.known told tt).inside in
-    let period = within (from_to (pos 0) (pos 1) 1 4) (c.period.ensures some_place least_pi _ _ some_pi (rate_not_zero positive) motion.n0) tt in
+    let period = within (from_to (pos 0) (pos 1) 1 4) (c.period.ensures.gives some_pi (rate_not_zero positive) motion.n0) tt in
     let long = rw c.bounds.ensures at (denies c.is_short.ensures c.if-not-is_short.true) in
     let least = period_from _ (period.known told tt) (law _ some_place _ period.covers) long in
     record {
@@ -43,7 +43,7 @@ returns-then-not-is_high-clause-refused g c =
     let shown = c.in_default.ensures in
     let found = some_motion _ shown.elements.ecc (le_of_not_lt shown.ordinary.not_eccentric) (le_of_lt shown.between.above) (le_of_lt shown.between.below) in
     let motion = c.recovered-motion.ensures some_place least_pi found.0 some_pi found.1 in
-    let perigee = within (from_to (negsuc 1999) (pos 6100) 1 (2 ^ 20)) (c.perigee_km.ensures some_place _ _ motion.rp) tt in
+    let perigee = within (from_to (negsuc 1999) (pos 6100) 1 (2 ^ 20)) (c.perigee_km.ensures.gives motion.rp) tt in
     let low = rw c.bounds-2.ensures at (denies c.is_high.ensures c.if-not-is_high.true) in
     record {
       ordinary = shown.ordinary;
@@ -61,12 +61,12 @@ returns-clause-near_earth g c = record {
   period = λ pi m is_pi recovered.
       let motion = c.recovered-motion.ensures some_place pi m is_pi recovered in
       let positive = mean_motion_positive (motion.n0.known c.requires.told tt).inside in
-      let period = c.period.ensures some_place pi _ _ is_pi (rate_not_zero positive) motion.n0 in
+      let period = c.period.ensures.gives is_pi (rate_not_zero positive) motion.n0 in
       let short = rw c.bounds.ensures at (shows c.is_short.ensures c.if-not-is_short.false) in
       subst (λ t. t <ℚ whole 225) (period_is pi m.n0 (not_zero positive) (rate_not_zero positive)) (period_below _ (g.met.E.Enc.contained _ some_place _ period.covers) short);
   perigee = λ pi m is_pi recovered.
       let motion = c.recovered-motion.ensures some_place pi m is_pi recovered in
-      let perigee = c.perigee_km.ensures some_place _ _ motion.rp in
+      let perigee = c.perigee_km.ensures.gives motion.rp in
       let high = rw c.bounds-2.ensures at (shows c.is_high.ensures c.if-not-is_high.false) in
       perigee_from _ (g.met.E.Enc.contained _ some_place _ perigee.covers) high;
 }

@@ -1,15 +1,13 @@
 use Rattle.std.proofs.Common.{◌∙◌, ap, sym, pos}
 use Rattle.exact.specs.Rational.{◌*ℚ◌, ◌/ℚ◌}
-use Rattle.fixed_iv.specs.Reach.{given, turned, ◌+ᴿ◌, ◌-ᴿ◌, ◌*ᴿ◌, ◌/ᴿ◌}
+use Rattle.fixed_iv.specs.Reach.{turned, ◌+ᴿ◌, ◌-ᴿ◌, ◌*ᴿ◌, ◌/ᴿ◌}
 use Rattle.fixed_iv.specs.ReachRoots.{cube_rooted, rooted}
-use Rattle.fixed_iv.proofs.Held.{claim_held, constant_held, held_at, minus_held, plus_held, times_held, turn_held, within}
-use Rattle.fixed_iv.proofs.HeldGiven.{ratio_given}
-use Rattle.fixed_iv.proofs.HeldQuotient.{divided_held}
+use Rattle.fixed_iv.proofs.Held.{claim_held, held_at, within}
 use Rattle.fixed_iv.proofs.HeldRoot.{cbrt2_held, sqrt_held}
+use Rattle.fixed_iv.proofs.Promises.{difference, number, product, quotient, sum, turn}
 use Rattle.sgp4_model.specs.Wgs72.{ke}
 use Rattle.sgp4_shape.specs.Covering.{unit_minutes}
 use Rattle.sgp4_motion.specs.HeldMotion.{reach_recovered}
-use Rattle.sgp4_motion.specs.Numerals.{exactly}
 use Rattle.sgp4_motion.proofs.FaultLemmas.{le_of_not_lt}
 use Rattle.exact.proofs.Strict.{le_of_lt}
 use Rattle.sgp4_motion.proofs.RecoveryLemmas.{axis_again, corrected_is, cosine_square_inside, divides_as_product, divides_at, effect_is, from_0, recovered_is, square_is}
@@ -37,38 +35,38 @@ pub inclination-i-requires-clause-least : goal.inclination-i-requires-clause-lea
 inclination-i-requires-clause-least g c = rw c.incl.ensures.value (from_0 c.incl.ensures.elements.incl.least)
 
 pub returns : goal.returns
-unfolding given turned rooted cube_rooted ◌+ᴿ◌ ◌-ᴿ◌ ◌*ᴿ◌ ◌/ᴿ◌
+unfolding turned rooted cube_rooted ◌+ᴿ◌ ◌-ᴿ◌ ◌*ᴿ◌ ◌/ᴿ◌
 returns g c h pi m is_pi motion =
     let law = g.met.E.Enc.contained in
     let lines = motion.recovers in
-    let one = within (exactly 1) (constant_held c.constant-one.ensures.covers c.constant-one.ensures.narrow (ratio_given (pos 1) 0 0 c.from_ratio.ensures tt tt)) tt in
+    let one = number (pos 1) 0 0 c.constant-one.ensures c.from_ratio.ensures tt tt tt in
     let i = held_at (sym motion.i_is) (rw c.incl.ensures.value at (c.inclination-i.ensures h pi is_pi)) in
-    let turn = turn_held c.sincos-si.ensures.covers c.sincos-si.ensures.narrow is_pi motion.i_pair i in
-    let square = held_at (square_is m.c) (times_held law c.times-c2.ensures.covers c.times-c2.ensures.narrow turn.1 turn.1) in
+    let pair = turn c.sincos-si.ensures is_pi motion.i_pair i in
+    let square = held_at (square_is m.c) (product law c.times-c2.ensures pair.1 pair.1) in
     let c2 = claim_held _ square (cosine_square_inside is_pi motion.i_pair) in
-    let con41 = c.con41-con41.ensures h _ _ c2 in
+    let con41 = c.con41-con41.ensures.gives c2 in
     let e = held_at (sym motion.e_is) (rw c.ecc.ensures.value at (c.eccentricity-e.ensures h)) in
-    let bb = held_at (sym lines.bb_is) (c.one_less_square-bb.ensures h _ _ e) in
+    let bb = held_at (sym lines.bb_is) (c.one_less_square-bb.ensures.gives e) in
     let b0 = sqrt_held law c.sqrt-b0.ensures.covers c.sqrt-b0.ensures.narrow lines.b0_is bb in
     let power = held_at (ap (λ t. ke /ℚ t) (sym motion.n_is)) (rw c.motion.ensures.value at (c.axis_power-power.ensures h pi is_pi)) in
     let a1 = cbrt2_held law c.cbrt2-a1.ensures.covers c.cbrt2-a1.ensures.narrow lines.a1_is power in
-    let d1 = held_at (sym lines.d1_is) (c.oblateness-d1.ensures h _ _ _ _ _ _ lines.b0_bb_divides con41 b0 bb) in
-    let de1 = held_at (effect_is m.d1 m.a1 ∙ sym lines.de1_is) (c.effect_at.ensures h _ _ _ _ (divides_as_product _ lines.a1_divides) d1 a1) in
-    let a2 = held_at (corrected_is m.a1 m.de1 ∙ sym lines.a2_is) (c.corrected_axis-a2.ensures h _ _ _ _ a1 de1) in
-    let de0 = held_at (effect_is m.d1 m.a2 ∙ sym lines.de0_is) (c.effect_at-2.ensures h _ _ _ _ (divides_as_product _ lines.a2_divides) d1 a2) in
-    let growth = plus_held law c.plus-growth.ensures.covers c.plus-growth.ensures.narrow one de0 in
+    let d1 = held_at (sym lines.d1_is) (c.oblateness-d1.ensures.gives lines.b0_bb_divides con41 b0 bb) in
+    let de1 = held_at (effect_is m.d1 m.a1 ∙ sym lines.de1_is) (c.effect_at.ensures.gives (divides_as_product _ lines.a1_divides) d1 a1) in
+    let a2 = held_at (corrected_is m.a1 m.de1 ∙ sym lines.a2_is) (c.corrected_axis-a2.ensures.gives a1 de1) in
+    let de0 = held_at (effect_is m.d1 m.a2 ∙ sym lines.de0_is) (c.effect_at-2.ensures.gives (divides_as_product _ lines.a2_divides) d1 a2) in
+    let growth = sum law c.plus-growth.ensures one de0 in
     let n = held_at (ap (λ t. unit_minutes 1 *ℚ t) (sym motion.n_is)) (rw c.motion-2.ensures.value at (c.mean_motion.ensures h pi is_pi)) in
-    let n0 = held_at (recovered_is m.n _ ∙ ap (λ t. unit_minutes 1 *ℚ t) (sym lines.n0_is)) (divided_held law c.divided-n0.ensures.covers c.divided-n0.ensures.narrow lines.de0_divides n growth) in
+    let n0 = held_at (recovered_is m.n _ ∙ ap (λ t. unit_minutes 1 *ℚ t) (sym lines.n0_is)) (quotient law c.divided-n0.ensures lines.de0_divides n growth) in
     let again = axis_again m.n _ lines.n_divides lines.de0_divides (divides_at lines.n0_is lines.n0_divides) ∙ ap (λ t. ke /ℚ t) (sym lines.n0_is) in
-    let power0 = held_at again (times_held law c.times.ensures.covers c.times.ensures.narrow power growth) in
+    let power0 = held_at again (product law c.times.ensures power growth) in
     let a = cbrt2_held law c.cbrt2-a.ensures.covers c.cbrt2-a.ensures.narrow lines.a_is power0 in
-    let p = held_at (sym lines.p_is) (times_held law c.times-p.ensures.covers c.times-p.ensures.narrow a bb) in
-    let rest = minus_held law c.minus.ensures.covers c.minus.ensures.narrow one e in
-    let rp = held_at (sym lines.rp_is) (times_held law c.times-rp.ensures.covers c.times-rp.ensures.narrow a rest) in
+    let p = held_at (sym lines.p_is) (product law c.times-p.ensures a bb) in
+    let rest = difference law c.minus.ensures one e in
+    let rp = held_at (sym lines.rp_is) (product law c.times-rp.ensures a rest) in
     record {
       i = i;
-      c = within reach_recovered.c turn.1 tt;
-      si = within reach_recovered.si turn.0 tt;
+      c = within reach_recovered.c pair.1 tt;
+      si = within reach_recovered.si pair.0 tt;
       e = e;
       n0 = within reach_recovered.n0 n0 tt;
       a = within reach_recovered.a a tt;
@@ -77,5 +75,5 @@ returns g c h pi m is_pi motion =
       p = within reach_recovered.p p tt;
       rp = within reach_recovered.rp rp tt;
       con41 = within reach_recovered.con41 (held_at (sym lines.con41_is) con41) tt;
-      con42 = within reach_recovered.con42 (held_at (sym lines.con42_is) (c.con42-con42.ensures h _ _ c2)) tt;
+      con42 = within reach_recovered.con42 (held_at (sym lines.con42_is) (c.con42-con42.ensures.gives c2)) tt;
     }
