@@ -1,0 +1,6 @@
+pub mod HeldLemmas
+mod ListLemmas
+mod PushLemmas
+mod ReleaseLemmas
+mod RunLemmas
+mod ViewLemmas
