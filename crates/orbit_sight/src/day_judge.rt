@@ -1,5 +1,5 @@
 //! The judge of daylight at a place.
-ghost use Rattle.std.specs.Prelude.{◌≡◌, ◌+◌, ◌<◌, ◌≤ℤ◌, ◌<ℤ◌, pos};
+ghost use Rattle.std.specs.Prelude.{◌≡◌, ◌≢◌, ◌+◌, ◌<◌, ◌≤ℤ◌, ◌<ℤ◌, pos};
 ghost use Rattle.decimals.specs.Decimal.{value};
 ghost use Rattle.exact.specs.Rational.{ℚ};
 ghost use Rattle.fixed_iv.specs.Holds.{Holds};
@@ -50,6 +50,9 @@ impl<'a> Judge for DayJudge<'a> {
 
     ghost grazes_at = { λ j. EveryDaySolution (value j.spot.now.lat) (value j.spot.now.lon) j.window.start GrazesHorizon };
 
+    // Nothing sinks.
+    ghost sinks_at = { λ _ _. ⊥ };
+
     fn ticks(&self) -> u64 {
         self.window.ticks()
     }
@@ -65,6 +68,7 @@ fn verdict_of(light: Iv) -> Verdict
     ensures yes { result ≡ Verdict.Yes → pos 0 <ℤ light.lo }
     ensures no { result ≡ Verdict.No → light.hi <ℤ pos 0 }
     ensures unsure { result ≡ Verdict.Unsure → (light.lo ≤ℤ pos 0) × (pos 0 ≤ℤ light.hi) }
+    ensures sinks { result ≢ Verdict.Sinks }
 {
     let (low, high) = light.ends();
     if low > 0 {

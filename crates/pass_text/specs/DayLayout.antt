@@ -2,7 +2,7 @@
 use Rattle.std.specs.Prelude.{ℕ, ◌/◌, ℤ, List, [], ◌∷◌, ◌++◌, codes, decimal}
 use Rattle.civil_time.specs.InstantText.{instant_text}
 use Rattle.elements.specs.Window.{WindowRecord, tick_instant}
-use Rattle.sgp4_model.specs.Records.{AnswerRecord, spans, unresolved, full}
+use Rattle.sgp4_model.specs.Records.{AnswerRecord, spans, unresolved, full, decays}
 use Rattle.sgp4_model.specs.declared.span.Mark.{Mark}
 use Rattle.sgp4_model.specs.declared.span.Mark.TheVariants.{Yes, No, Undecided}
 use Rattle.sgp4_model.specs.declared.span.Span.{Span}
@@ -42,11 +42,12 @@ abbrev pub day_span_lines : ℤ → List Span → List ℕ
 day_span_lines start [] = []
 day_span_lines start (span ∷ rest) = span_line (day_letter span.mark) start span ++ day_span_lines start rest
 
--- the lines of an answer: its spans, or the one line that says why there are none
+-- the lines of an answer: its spans, or the one line that says why there are none; daylight never decays, and no line says so
 abbrev pub day_answer_lines : ℤ → AnswerRecord → List Span → List ℕ
 day_answer_lines start (spans count) list = day_span_lines start list
 day_answer_lines start (unresolved from to) list = unresolved_line start from to
 day_answer_lines start (full at) list = full_line start at
+day_answer_lines start (decays at) list = []
 
 -- the whole text: the heading, the window, the answer, the end
 abbrev pub day_layout : WindowRecord → AnswerRecord → List Span → List ℕ

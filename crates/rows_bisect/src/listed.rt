@@ -6,7 +6,8 @@ use span_bisect::{Judge, Verdict};
 use std::cell::Cell;
 
 /// Answers the verdict of the stretch that a cell lies in, and `Unsure` of a cell that lies in none. A stretch is its
-/// end and its verdict; it begins where the one before it ends.
+/// end and its verdict; it begins where the one before it ends. Of a cell of more than one tick in a stretch that sinks
+/// it is `Unsure`.
 #[derive(Drop)]
 pub struct Listed {
     stretches: &'static [(u64, Verdict)],
@@ -29,6 +30,18 @@ impl Listed {
     pub fn calls(&self) -> u64 {
         self.calls.get()
     }
+
+    /// The verdict of the stretch that a cell lies in.
+    fn listed(&self, from: u64, to: u64) -> Verdict {
+        let mut start = 0;
+        for (end, verdict) in self.stretches {
+            if start <= from && to <= *end {
+                return *verdict;
+            }
+            start = *end;
+        }
+        Verdict::Unsure
+    }
 }
 
 impl Judge for Listed {
@@ -40,19 +53,21 @@ impl Judge for Listed {
 
     ghost grazes_at = { λ _ _. ⊤ };
 
+    ghost sinks_at = { λ _ _. ⊤ };
+
     fn ticks(&self) -> u64 {
         self.ticks
     }
 
     fn judge(&self, from: u64, to: u64) -> Verdict {
         self.calls.set(self.calls.get().saturating_add(1));
-        let mut start = 0;
-        for (end, verdict) in self.stretches {
-            if start <= from && to <= *end {
-                return *verdict;
-            }
-            start = *end;
+        match self.listed(from, to) {
+            Verdict::Sinks => if to - from == 1 {
+                Verdict::Sinks
+            } else {
+                Verdict::Unsure
+            },
+            verdict => verdict,
         }
-        Verdict::Unsure
     }
 }

@@ -1,3 +1,4 @@
 mod HorizonCases
+mod SinkingCases
 mod SmallCases
 mod ToleranceCases

@@ -1,8 +1,8 @@
 -- Which of the small rows are certified.
 use Rattle.std.specs.Prelude.{[]}
-use Rattle.sgp4_model.specs.Records.{spans, unresolved, full}
+use Rattle.sgp4_model.specs.Records.{spans, unresolved, full, decays}
 use Rattle.sgp4_model.specs.Certified.{IsCertified}
-use Rattle.rows_model.specs.SmallTrack.{small_track, right_list, gapped_list, split_list}
+use Rattle.rows_model.specs.SmallTrack.{small_track, sinking_track, sunken_track, right_list, gapped_list, split_list}
 
 -- the row of the right list: its count is that of its list, which is sound up to the end
 pub record SpanRows : Type 0 where
@@ -30,3 +30,15 @@ pub record FullRows : Type 0 where
   pub underfull : ¬ (IsCertified small_track 2 10 9 (full 0) [])
   pub untrue : ¬ (IsCertified small_track 2 10 9 (full 4) [])
   pub listed : ¬ (IsCertified small_track 2 10 8 (full 5) right_list)
+
+-- the track sinks from 5 to 6, both included, and two spans lead to 5; no slot is needed
+pub record DecayRows : Type 0 where
+  pub right : IsCertified sinking_track 2 10 8 (decays 5) []
+  pub no_slot : IsCertified sinking_track 2 10 10 (decays 5) []
+  pub at_its_end : IsCertified sinking_track 2 10 8 (decays 4) []
+  pub at_once : IsCertified sunken_track 2 10 0 (decays 0) []
+  pub early : ¬ (IsCertified sinking_track 2 10 8 (decays 3) [])
+  pub calm : ¬ (IsCertified small_track 2 10 8 (decays 5) [])
+  pub at_the_end : ¬ (IsCertified sinking_track 2 10 8 (decays 7) [])
+  pub untrue : ¬ (IsCertified sunken_track 2 10 0 (decays 1) [])
+  pub listed : ¬ (IsCertified sinking_track 2 10 8 (decays 5) right_list)

@@ -2,7 +2,7 @@
 #![tactic(auto)]
 
 ghost use Rattle.rows_model.specs.Horizon.{HorizonRows};
-ghost use Rattle.rows_model.specs.Rows.{FullRows, SpanRows, UnresolvedRows};
+ghost use Rattle.rows_model.specs.Rows.{DecayRows, FullRows, SpanRows, UnresolvedRows};
 ghost use Rattle.rows_model.specs.Tilings.{SmallNeighbours, SmallTilings, SmallTruths};
 ghost use Rattle.rows_model.specs.Tolerances.{CubeRootRows, ModestRows, PairRows, PiRows, SquareRootRows};
 
@@ -34,6 +34,11 @@ pub fn unresolved_rows()
 /// A row that found no room, and rows that differ from it in one place.
 pub fn full_rows()
     ensures { FullRows }
+{}
+
+/// A row that sinks, and rows that differ from it in one place.
+pub fn decaying_rows()
+    ensures { DecayRows }
 {}
 
 /// Numbers that are light, are night or graze, and numbers just past them.

@@ -66,6 +66,7 @@ small_resolved = record {
   of_spans = tt;
   of_full = tt;
   of_unresolved = λ h. h;
+  of_decays = λ h. h;
   long = λ n. n 5 (omega arith) (λ place h. h);
   short = short;
   slots = refl;

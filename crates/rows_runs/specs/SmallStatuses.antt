@@ -4,7 +4,7 @@ use Rattle.catalogue.specs.declared.fault.CatFault.TheVariants.{Empty}
 use Rattle.pass_words.specs.declared.fault.UsageFault.TheVariants.{NoCommand}
 use Rattle.pass_words.specs.declared.fault.WindowFault.TheVariants.{Order}
 use Rattle.sat_locate.specs.declared.found.Found.TheVariants.{Missing, Refused, Inside, Unplaced}
-use Rattle.sgp4_model.specs.Records.{AnswerRecord, spans, unresolved, full}
+use Rattle.sgp4_model.specs.Records.{AnswerRecord, spans, unresolved, full, decays}
 use Rattle.sgp4_shape.specs.declared.fault.SatFault.TheVariants.{Far}
 use Rattle.top_call.specs.Status.{status_of}
 use Rattle.top_call.specs.declared.outcome.Outcome.TheVariants.{Done, Usage, BadWindow, BadCatalogue, ReadFault, TooLong, WriteFault, OutOfMemory}
@@ -20,6 +20,7 @@ pub record SmallStatuses : Type 0 where
   pub tracked : status_of (Done (small_day (spans 0))) ≡ 0
   pub unresolved_day : status_of (Done (small_day (unresolved 0 1))) ≡ 1
   pub full_day : status_of (Done (small_day (full 0))) ≡ 1
+  pub decaying_day : status_of (Done (small_day (decays 0))) ≡ 1
   pub shown : status_of (Done (Shown [])) ≡ 0
   pub placed :
       status_of (Done (Located (record {

@@ -7,7 +7,7 @@ use Rattle.exact.specs.Rational.{ℚ}
 use Rattle.sgp4_model.specs.Time.{IsWithin}
 use Rattle.sgp4_model.proofs.TimeLemmas.{cut}
 use Rattle.sgp4_model.specs.Certified.{TrackRecord, Leads, NeighboursDiffer, IsTrueSpan}
-use Rattle.sgp4_model.specs.CertifiedLaws.{EndsOtherThan, SoundListsExtend, TilesHoldEachPlace}
+use Rattle.sgp4_model.specs.CertifiedLaws.{EndsOtherThan, OnlySinkingTracksDecay, SoundListsExtend, TilesHoldEachPlace}
 use Rattle.sgp4_model.specs.declared.span.Span.{Span}
 
 -- a list that leads on, and a span from there
@@ -45,3 +45,6 @@ held from first (second ∷ rest) to place leads here = cut from first.to to pla
 pub tiles_hold_each_place : TilesHoldEachPlace
 tiles_hold_each_place [] to place tiles longer here = absurd (omega arith)
 tiles_hold_each_place (first ∷ rest) to place tiles longer here = held 0 first rest to place tiles here
+
+pub only_sinking_tracks_decay : (track : TrackRecord) → OnlySinkingTracksDecay track
+only_sinking_tracks_decay track resolution slots used at list h = (h.0.sinks.0, h.0.sinks.1.1)

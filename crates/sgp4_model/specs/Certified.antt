@@ -1,18 +1,19 @@
 -- What a list of spans has to say of a track for a row to be certified.
 use Rattle.std.specs.Prelude.{◌≡◌, ◌≢◌, ℕ, ◌+◌, ◌<◌, ◌≤◌, List, [], ◌∷◌, length, All, ⊤}
 use Rattle.exact.specs.Rational.{ℚ}
-use Rattle.sgp4_model.specs.Time.{Throughout}
-use Rattle.sgp4_model.specs.Records.{AnswerRecord, spans, unresolved, full}
+use Rattle.sgp4_model.specs.Time.{Throughout, Somewhere}
+use Rattle.sgp4_model.specs.Records.{AnswerRecord, spans, unresolved, full, decays}
 use Rattle.sgp4_model.specs.declared.span.Mark.{Mark}
 use Rattle.sgp4_model.specs.declared.span.Mark.TheVariants.{Yes, No, Undecided}
 use Rattle.sgp4_model.specs.declared.span.Span.{Span}
 
--- a track: how many ticks it has, and at which places yes, no and grazing hold
+-- a track: how many ticks it has, and at which places yes, no, grazing and sinking hold
 pub record TrackRecord : Type 1 where
   pub ticks : ℕ
   pub yes : ℚ → Type 0
   pub no : ℚ → Type 0
   pub grazes : ℚ → Type 0
+  pub sinks : ℚ → Type 0
 
 -- the spans lead from one tick to another: each begins where the one before it ends, and is at least a tick long
 abbrev pub Leads : ℕ → List Span → ℕ → Type 0
@@ -59,6 +60,13 @@ pub record IsFull (track : TrackRecord) (resolution slots used at : ℕ) : Type 
   pub before_the_end : at < track.ticks
   pub no_slot : length list + used ≡ slots
 
+-- a list is sound up to a tick before the end, and in the tick that begins there the track sinks at some place
+pub record IsDecaying (track : TrackRecord) (resolution at : ℕ) : Type 0 where
+  pub list : List Span
+  pub sound : IsSoundUpTo track resolution list at
+  pub before_the_end : at < track.ticks
+  pub sinks : Somewhere at (at + 1) track.sinks
+
 -- A row is certified: its answer and its list of spans say of the track what they seem to. There are so many slots
 -- for spans, of which so many were used before this row.
 abbrev pub IsCertified : TrackRecord → ℕ → ℕ → ℕ → AnswerRecord → List Span → Type 0
@@ -66,3 +74,4 @@ IsCertified track resolution slots used (spans count) list =
     IsSoundUpTo track resolution list track.ticks × (count ≡ length list)
 IsCertified track resolution slots used (unresolved from to) list = IsUnresolved track resolution from to × (list ≡ [])
 IsCertified track resolution slots used (full at) list = IsFull track resolution slots used at × (list ≡ [])
+IsCertified track resolution slots used (decays at) list = IsDecaying track resolution at × (list ≡ [])

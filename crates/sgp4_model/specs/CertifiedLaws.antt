@@ -2,7 +2,8 @@
 use Rattle.std.specs.Prelude.{ℕ, ◌≢◌, ◌<◌, List, [], ◌∷◌, ◌++◌, Contains, ⊤}
 use Rattle.exact.specs.Rational.{ℚ}
 use Rattle.sgp4_model.specs.Time.{IsWithin}
-use Rattle.sgp4_model.specs.Certified.{TrackRecord, Tiles, IsTrueSpan, IsSoundUpTo}
+use Rattle.sgp4_model.specs.Records.{decays}
+use Rattle.sgp4_model.specs.Certified.{TrackRecord, Tiles, IsTrueSpan, IsSoundUpTo, IsCertified}
 use Rattle.sgp4_model.specs.declared.span.Mark.{Mark}
 use Rattle.sgp4_model.specs.declared.span.Span.{Span}
 
@@ -27,3 +28,8 @@ abbrev pub TilesHoldEachPlace : Type 0
 TilesHoldEachPlace =
     (list : List Span) (to : ℕ) (place : ℚ) → Tiles list to → 0 < to → IsWithin 0 to place →
     (span : Span) × (Contains list span × IsWithin span.from span.to place)
+
+-- a row that decays is certified only where the track sinks at some place
+abbrev pub OnlySinkingTracksDecay : TrackRecord → Type 0
+OnlySinkingTracksDecay track =
+    (resolution slots used at : ℕ) (list : List Span) → IsCertified track resolution slots used (decays at) list → (place : ℚ) × track.sinks place

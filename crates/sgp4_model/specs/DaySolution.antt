@@ -44,11 +44,12 @@ GrazesHorizon product = IsNear (ratio (pos 1) 1000) product zero_ℚ
 abbrev pub EveryDaySolution : ℚ → ℚ → ℤ → (ℚ → Type 0) → ℚ → Type 0
 EveryDaySolution lat lon start holds place = (product : ℚ) → IsDaySolution lat lon (instant_of_place start place) product → holds product
 
--- the track of daylight: at a place of the window every day solution is light, is night, or grazes
+-- the track of daylight: at a place of the window every day solution is light, is night, or grazes; nothing sinks
 abbrev pub day_track : ℚ → ℚ → ℤ → ℕ → TrackRecord
 day_track lat lon start ticks = record {
   ticks = ticks;
   yes = EveryDaySolution lat lon start IsDaylight;
   no = EveryDaySolution lat lon start IsNight;
   grazes = EveryDaySolution lat lon start GrazesHorizon;
+  sinks = λ _. ⊥;
 }

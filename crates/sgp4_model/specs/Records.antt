@@ -26,8 +26,9 @@ pub record StationRecord : Type 0 where
   pub height : ℚ
   pub sectors : List SectorRecord
 
--- the answer of a row: so many spans; unresolved from one tick to another; or full at a tick
+-- the answer of a row: so many spans; unresolved from one tick to another; full at a tick; or decaying at a tick
 pub data AnswerRecord : Type 0 where
   spans : ℕ → AnswerRecord
   unresolved : ℕ → ℕ → AnswerRecord
   full : ℕ → AnswerRecord
+  decays : ℕ → AnswerRecord

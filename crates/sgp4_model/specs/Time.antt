@@ -19,3 +19,7 @@ pub record IsWithin (from to : ℕ) (place : ℚ) : Type 0 where
 -- a fact holds at every place of the closed cell, whole or not
 abbrev pub Throughout : ℕ → ℕ → (ℚ → Type 0) → Type 0
 Throughout from to holds = (place : ℚ) → IsWithin from to place → holds place
+
+-- a fact holds at some place of the closed cell, whole or not
+abbrev pub Somewhere : ℕ → ℕ → (ℚ → Type 0) → Type 0
+Somewhere from to holds = (place : ℚ) × (IsWithin from to place × holds place)

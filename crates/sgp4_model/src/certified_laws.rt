@@ -1,7 +1,7 @@
 //! Laws of lists of spans.
 
 ghost use Rattle.sgp4_model.specs.Certified.{TrackRecord};
-ghost use Rattle.sgp4_model.specs.CertifiedLaws.{EmptyListTiles, SoundListsExtend, TilesHoldEachPlace};
+ghost use Rattle.sgp4_model.specs.CertifiedLaws.{EmptyListTiles, OnlySinkingTracksDecay, SoundListsExtend, TilesHoldEachPlace};
 
 /// Something that has a track.
 pub trait Tracked {
@@ -21,4 +21,9 @@ pub fn sound_lists_extend<T: Tracked>()
 /// Each place up to a tick lies in some span of a list that tiles 0 to it.
 pub fn tiles_hold_each_place()
     ensures { TilesHoldEachPlace }
+{}
+
+/// A row that decays is certified only where its track sinks at some place.
+pub fn only_sinking_tracks_decay<T: Tracked>()
+    ensures { OnlySinkingTracksDecay T.track }
 {}

@@ -1,3 +1,4 @@
+pub mod GrownLemmas
 pub mod StackLemmas
 pub mod ReadingLemmas
 pub mod MarkLemmas

@@ -2,17 +2,16 @@
 use Rattle.std.proofs.Common.{arith, ◌≡◌, ◌≢◌, ℕ, ◌+◌, ◌-◌, ◌<◌, ◌≤◌, List, [], ◌∷◌, ◌++◌, length, refl, sym, ◌∙◌, subst}
 use Rattle.std.proofs.lemmas.List.Elements.{All-nil}
 use Rattle.exact.specs.Rational.{ℚ}
-use Rattle.sgp4_model.specs.Time.{Throughout}
-use Rattle.sgp4_model.specs.Certified.{TrackRecord, IsTrueSpan, IsSoundUpTo, IsUnresolved, IsFull}
+use Rattle.sgp4_model.specs.Time.{Somewhere, Throughout}
+use Rattle.sgp4_model.specs.Certified.{TrackRecord, IsDecaying, IsTrueSpan, IsSoundUpTo, IsUnresolved, IsFull}
 use Rattle.sgp4_model.specs.CertifiedLaws.{EndsOtherThan}
 use Rattle.sgp4_model.proofs.TimeLemmas.{throughout_join}
 use Rattle.sgp4_model.proofs.CertifiedLemmas.{sound_lists_extend}
 use Rattle.span_bisect.specs.Answer.{IsOutOfRoom}
-use Rattle.span_bisect.specs.Part.{IsPart}
+use Rattle.span_bisect.specs.Part.{IsPart, IsSink}
 use Rattle.sgp4_model.specs.declared.span.Mark.{Mark}
 use Rattle.sgp4_model.specs.declared.span.Mark.TheVariants.{Yes, No, Undecided}
 use Rattle.sgp4_model.specs.declared.span.Span.{Span}
-use Rattle.span_bisect.specs.declared.track.TrackAnswer.TheVariants.{Full}
 
 -- a part of each mark, of what a judge says
 pub part_yes : (track : TrackRecord) (from to : ℕ) → from < to → Throughout from to track.yes → IsPart track from (record { mark = Yes; from = from; to = to })
@@ -30,6 +29,10 @@ part_undecided track from to l h = record {
   longer = omega arith;
   certain = record { yes = λ e. absurd (cc); no = λ e. absurd (cc); grazes = λ _. h; short = λ _. omega arith };
 }
+
+-- and a cell that sinks
+pub sink : (track : TrackRecord) (from to : ℕ) → from < to → to ≤ track.ticks → (to ≡ from + 1) × Somewhere from to track.sinks → IsSink track from
+sink track from to l inside h = record { inside = omega (arith, l, inside); sinks = subst (λ t. Somewhere from t track.sinks) h.0 h.1 }
 
 -- a list, sound up to where a true span of another mark than its last one begins
 pub record IsReadTo (track : TrackRecord) (resolution : ℕ) (list : List Span) (run : Span) : Type 0 where
@@ -99,25 +102,42 @@ unresolved track resolution list run part h p same e long inside = record {
   grazes = joined track.grazes run part p.begins (h.certain.grazes e) (p.certain.grazes (same ∙ e));
 }
 
-pub full : (track : TrackRecord) (resolution slots : ℕ) (list : List Span) (run : Span) → IsReadTo track resolution list run →
-    length list ≡ slots → run.to ≤ track.ticks → IsFull track resolution slots 0 run.from
-full track resolution slots list run h e inside = record {
+-- the span that found no slot
+pub full : (track : TrackRecord) (resolution slots used : ℕ) (list : List Span) (run : Span) → IsReadTo track resolution list run →
+    length list + used ≡ slots → run.to ≤ track.ticks → IsFull track resolution slots used run.from
+full track resolution slots used list run h e inside = record {
   list = list;
   sound = h.sound;
-  before_the_end = omega (arith, h.longer);
-  no_slot = omega arith;
+  before_the_end = omega (arith, h.longer, inside);
+  no_slot = e;
 }
 
--- the list with the run is too long for the room
-pub out_of_room : (track : TrackRecord) (resolution room : ℕ) (list : List Span) (run : Span) → IsReadTo track resolution list run →
-    length list ≡ room → run.to ≤ track.ticks → (at : ℕ) → Full run.from ≡ Full at → IsOutOfRoom track resolution room at
-out_of_room track resolution room list run h e inside at same =
-    let begins : run.from ≡ at = cc in
-    record {
-      list = list;
-      last = run;
-      sound = finish track resolution list run h;
-      inside = inside;
-      begins = begins;
-      no_room = e;
-    }
+-- the list with the run is too long for the slots
+pub out_of_room : (track : TrackRecord) (resolution slots used : ℕ) (list : List Span) (run : Span) → IsReadTo track resolution list run →
+    length list + used ≡ slots → run.to ≤ track.ticks → IsOutOfRoom track resolution slots used run.from
+out_of_room track resolution slots used list run h e inside = record {
+  list = list;
+  last = run;
+  sound = finish track resolution list run h;
+  inside = inside;
+  begins = refl;
+  no_room = e;
+}
+
+-- a track that sinks where it begins, and one that sinks where the run ends
+pub sinks_first : (track : TrackRecord) (resolution : ℕ) → IsSink track 0 → IsDecaying track resolution 0
+sinks_first track resolution s = record {
+  list = [];
+  sound = record { tiles = refl; differ = tt; each = All-nil (IsTrueSpan track resolution) };
+  before_the_end = s.inside;
+  sinks = s.sinks;
+}
+
+pub sinks : (track : TrackRecord) (resolution : ℕ) (list : List Span) (run : Span) → IsReadTo track resolution list run → IsSink track run.to →
+    IsDecaying track resolution run.to
+sinks track resolution list run h s = record {
+  list = list ++ run ∷ [];
+  sound = finish track resolution list run h;
+  before_the_end = s.inside;
+  sinks = s.sinks;
+}

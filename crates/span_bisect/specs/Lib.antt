@@ -1,3 +1,4 @@
 pub mod Answer
 pub mod Part
+pub mod Reading
 pub mod Stack

@@ -1,83 +1,122 @@
 //! The bisection.
 
-ghost use Rattle.std.specs.Prelude.{ℕ, ◌≡◌, ◌<◌, ◌≤◌, List, [], ◌∷◌, ◌++◌, length, true, false, Ok, IfOk};
+ghost use Rattle.std.specs.Prelude.{◌≡◌, ◌<◌, ◌≤◌, IfErr, IfNone, IfSome, None, OnOk};
 ghost use Rattle.arrayvec.specs.ArrayVec.{array_vec_len};
-ghost use Rattle.span_bisect.specs.Answer.{IsAnswer, IsOutOfRoom, track_of};
-ghost use Rattle.span_bisect.specs.Part.{IsPart};
+ghost use Rattle.span_bisect.specs.Answer.{HasItsCause, IsAnswer, IsPoolAfter, track_of};
+ghost use Rattle.span_bisect.specs.Part.{IsPart, IsSink};
+ghost use Rattle.span_bisect.specs.Reading.{IsGrown, IsRead, IsStop, said};
 ghost use Rattle.span_bisect.specs.Stack.{IsStack};
+ghost use Rattle.span_pool.specs.Pool.{Holds, IsStill};
+ghost use Rattle.span_pool.specs.declared.track.Track.{Track};
 
+use crate::answer::{Cover, TrackAnswer};
 use crate::judge::{Judge, Verdict};
-use crate::track::{Cover, Track, TrackAnswer};
 use arrayvec::ArrayVec;
-use sgp4_model::{Mark, Span};
-use std::alloc::{AllocError, Global};
+use span_pool::{Full, Mark, Span, SpanPool, Track};
 
-/// The spans of the judge's window, where so many spans have room, with undecided spans of at most `resolution`
-/// ticks. The left half of a cell is judged first.
-pub fn cover<J: Judge>(
-    alloc: Global,
-    judge: &J,
-    resolution: u64,
-    room: u32,
-) -> Result<Cover, AllocError>
+/// Why a track has no spans.
+pub(crate) enum Stop {
+    /// It grazes for too long.
+    Unresolved { from: u64, to: u64 },
+    /// The span that begins here found no free slot.
+    Full { at: u64 },
+    /// It sinks in the tick that begins here.
+    Decays { at: u64 },
+}
+
+/// The spans of the judge's window, in slots of the pool, with undecided spans of at most `resolution` ticks. The left
+/// half of a cell is judged first. A span takes a slot when the next one begins or the window ends; so a longer undecided
+/// stretch is `Unresolved`, and a tick that sinks is `Decays`, also where the span before it would find no slot. Only
+/// `Spans` leaves slots in use.
+pub fn cover<J: Judge>(judge: &J, resolution: u64, pool: &mut SpanPool) -> Cover
     requires ticks { (1 ≤ J.tick_count judge.now) × (J.tick_count judge.now ≤ 8640000000) }
     requires resolution { (1 ≤ resolution) × (resolution ≤ 600000) }
-    requires room { room ≤ 1048576 }
-    ensures certified { IfOk result (λ c. IsAnswer (track_of J.Judge judge.now) resolution room c.answer) }
-    ensures full { IfOk result (λ c. (at : ℕ) → c.answer ≡ TrackAnswer.Full at → IsOutOfRoom (track_of J.Judge judge.now) resolution room at) }
+    ensures certified { IsAnswer (track_of J.Judge judge.now) resolution pool.old pool.new result.answer }
+    ensures causes { HasItsCause (track_of J.Judge judge.now) resolution pool.old result.answer }
+    ensures pool { IsPoolAfter pool.old pool.new result.answer }
+    ensures others { (other : Track) → Holds pool.old other → IsStill pool.old pool.new other }
+{
+    let mut cells = 0;
+    let mut track = pool.start();
+    let answer = match read_track(judge, resolution, pool, &mut track, &mut cells) {
+        Ok(()) => TrackAnswer::Spans(track),
+        Err(stop) => {
+            pool.release(track);
+            answer_of(stop)
+        }
+    };
+    Cover { answer, cells }
+}
+
+/// The answer where there are no spans.
+fn answer_of(stop: Stop) -> TrackAnswer
+    ensures { result ≡ said stop }
+{
+    match stop {
+        Stop::Unresolved { from, to } => TrackAnswer::Unresolved { from, to },
+        Stop::Full { at } => TrackAnswer::Full { at },
+        Stop::Decays { at } => TrackAnswer::Decays { at },
+    }
+}
+
+/// Reads the spans of the window into an empty track, or as far as they go.
+fn read_track<J: Judge>(
+    judge: &J,
+    resolution: u64,
+    pool: &mut SpanPool,
+    track: &mut Track,
+    cells: &mut u64,
+) -> Result<(), Stop>
+    requires ticks { (1 ≤ J.tick_count judge.now) × (J.tick_count judge.now ≤ 8640000000) }
+    requires resolution { (1 ≤ resolution) × (resolution ≤ 600000) }
+    requires empty { (track.old.head ≡ None) × (track.old.count ≡ 0) }
+    ensures grown { IsGrown pool.old pool.new track.new }
+    ensures read { OnOk result (IsRead (track_of J.Judge judge.now) resolution pool.new track.new) }
+    ensures stopped { IfErr result (IsStop (track_of J.Judge judge.now) resolution pool.old) }
 {
     let mut ends: ArrayVec<u64, 64> = ArrayVec::new();
     ends.push(judge.ticks());
-    let mut cells = 0;
-    let mut spans = Vec::new(alloc);
-    let mut run = next_part(judge, 0, &mut ends, &mut cells);
+    let Some(mut run) = next_part(judge, 0, &mut ends, cells) else {
+        return Err(Stop::Decays { at: 0 });
+    };
     while !ends.is_empty() {
-        let part = next_part(judge, run.to, &mut ends, &mut cells);
+        let Some(part) = next_part(judge, run.to, &mut ends, cells) else {
+            return Err(Stop::Decays { at: run.to });
+        };
         if part.mark == run.mark {
             run.to = part.to;
             if run.mark == Mark::Undecided && run.to - run.from > resolution {
-                let answer = TrackAnswer::Unresolved {
+                return Err(Stop::Unresolved {
                     from: run.from,
                     to: run.to,
-                };
-                return Ok(Cover { answer, cells });
+                });
             }
-        } else if end_span(&mut spans, run, room)? {
-            run = part;
         } else {
-            let answer = TrackAnswer::Full { at: run.from };
-            return Ok(Cover { answer, cells });
+            match pool.push(track, run) {
+                Ok(()) => run = part,
+                Err(Full) => return Err(Stop::Full { at: run.from }),
+            }
         }
     }
-    let answer = if end_span(&mut spans, run, room)? {
-        TrackAnswer::Spans(Track::of(spans))
-    } else {
-        TrackAnswer::Full { at: run.from }
-    };
-    Ok(Cover { answer, cells })
-}
-
-/// Adds a span where there is room for one more, and answers whether there is.
-fn end_span(spans: &mut Vec<Span>, span: Span, room: u32) -> Result<bool, AllocError>
-    requires { length spans.old.items ≤ room }
-    ensures room { length spans.new.items ≤ room }
-    ensures ended { result ≡ Ok true → spans.new.items ≡ spans.old.items ++ span ∷ [] }
-    ensures full { result ≡ Ok false → (spans.new.items ≡ spans.old.items) × (length spans.old.items ≡ room) }
-{
-    if spans.len() == room as usize {
-        return Ok(false);
+    match pool.push(track, run) {
+        Ok(()) => Ok(()),
+        Err(Full) => Err(Stop::Full { at: run.from }),
     }
-    spans.push(span)?;
-    Ok(true)
 }
 
 /// Halves the next cell until the judge is certain of its left part, or this is one tick long, and takes this part
-/// off the stack.
-fn next_part<J: Judge>(judge: &J, at: u64, ends: &mut ArrayVec<u64, 64>, cells: &mut u64) -> Span
+/// off the stack. There is none where the part sinks.
+fn next_part<J: Judge>(
+    judge: &J,
+    at: u64,
+    ends: &mut ArrayVec<u64, 64>,
+    cells: &mut u64,
+) -> Option<Span>
     requires more { 0 < array_vec_len ends.old }
     requires stack { IsStack (J.tick_count judge.now) at ends.old.items }
-    ensures part { IsPart (track_of J.Judge judge.now) at result }
-    ensures stack { IsStack (J.tick_count judge.now) result.to ends.new.items }
+    ensures part { IfSome result (IsPart (track_of J.Judge judge.now) at) }
+    ensures stack { IfSome result (λ part. IsStack (J.tick_count judge.now) part.to ends.new.items) }
+    ensures sinks { IfNone result (IsSink (track_of J.Judge judge.now) at) }
 {
     let Some(mut to) = ends.pop() else {
         unreachable!()
@@ -87,6 +126,7 @@ fn next_part<J: Judge>(judge: &J, at: u64, ends: &mut ArrayVec<u64, 64>, cells: 
         let mark = match judge.judge(at, to) {
             Verdict::Yes => Mark::Yes,
             Verdict::No => Mark::No,
+            Verdict::Sinks => return None,
             Verdict::Unsure => {
                 if to - at > 1 {
                     ends.push(to);
@@ -96,6 +136,6 @@ fn next_part<J: Judge>(judge: &J, at: u64, ends: &mut ArrayVec<u64, 64>, cells: 
                 Mark::Undecided
             }
         };
-        return Span { mark, from: at, to };
+        return Some(Span { mark, from: at, to });
     }
 }

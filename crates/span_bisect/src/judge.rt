@@ -2,7 +2,7 @@
 
 ghost use Rattle.std.specs.Prelude.{ℕ, ◌≡◌, ◌+◌, ◌<◌, ◌≤◌};
 ghost use Rattle.exact.specs.Rational.{ℚ};
-ghost use Rattle.sgp4_model.specs.Time.{Throughout};
+ghost use Rattle.sgp4_model.specs.Time.{Somewhere, Throughout};
 
 /// What a judge says of a closed cell.
 #[derive(Clone, Copy, PartialEq, Eq, Debug)]
@@ -13,6 +13,8 @@ pub enum Verdict {
     No,
     /// Neither is certain.
     Unsure,
+    /// It sinks: nothing is said from here on.
+    Sinks,
 }
 
 /// Something that tells, of each closed cell of its window, what certainly holds throughout. Ticks count 100
@@ -26,15 +28,19 @@ pub trait Judge {
 
     ghost grazes_at: { Self → ℚ → Type 0 };
 
+    ghost sinks_at: { Self → ℚ → Type 0 };
+
     /// How many ticks the window has.
     fn ticks(&self) -> u64
         ensures { result ≡ tick_count self.now };
 
-    /// What certainly holds throughout the closed cell. `Unsure` says that it grazes only of a cell of one tick.
+    /// What certainly holds throughout the closed cell. `Unsure` says that it grazes only of a cell of one tick. `Sinks`
+    /// comes of such a cell alone, and says that it sinks at some place of it.
     fn judge(&self, from: u64, to: u64) -> Verdict
         requires not_empty { from < to }
         requires inside { to ≤ tick_count self.now }
         ensures yes { result ≡ Verdict.Yes → Throughout from to (yes_at self.now) }
         ensures no { result ≡ Verdict.No → Throughout from to (no_at self.now) }
-        ensures unsure { result ≡ Verdict.Unsure → to ≡ from + 1 → Throughout from to (grazes_at self.now) };
+        ensures unsure { result ≡ Verdict.Unsure → to ≡ from + 1 → Throughout from to (grazes_at self.now) }
+        ensures sinks { result ≡ Verdict.Sinks → (to ≡ from + 1) × Somewhere from to (sinks_at self.now) };
 }

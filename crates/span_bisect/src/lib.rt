@@ -1,12 +1,11 @@
 //! Certified spans of a track, from verdicts on closed cells.
 #![tactic(auto)]
 
+mod answer;
 mod bisect;
 mod judge;
-mod track;
 
+pub use answer::{Cover, TrackAnswer};
 pub use bisect::cover;
 pub use judge::{Judge, Verdict};
-pub use sgp4_model::{Mark, Span};
-pub use std::alloc::AllocError as OutOfMemory;
-pub use track::{Cover, Track, TrackAnswer};
+pub use span_pool::{Mark, Span, SpanPool, Track};

@@ -1,40 +1,46 @@
 //! The result of the command `day`.
-ghost use Rattle.std.specs.Prelude.{◌≡◌, slice_get};
+ghost use Rattle.std.specs.Prelude.{◌≡◌, length, slice_get};
 
 use elements::Window;
 use sgp4_model::Span;
-use span_bisect::TrackAnswer;
+use span_bisect::{SpanPool, TrackAnswer};
 use std::marker::Model;
 
-/// The daylight of a place: the window, and the answer with its spans.
+/// The daylight of a place: the window, and the answer with its spans, which lie in a pool of its own.
 #[derive(Drop)]
 pub struct DayResult {
     window: Window,
+    pool: SpanPool,
     answer: TrackAnswer,
 }
 
 impl Model for DayResult {
-    ghost use Rattle.span_bisect.specs.Answer.{answer_record, answer_spans};
+    ghost use Rattle.span_bisect.specs.Answer.{IsHeld, answer_record, answer_spans};
     ghost use Rattle.top_call.specs.Day.{DayRecord, IsDayResult};
 
     ghost Value = { DayRecord };
 
-    ghost view = { λ d. record { window = d.window; answer = answer_record d.answer; list = answer_spans d.answer } };
+    ghost view = { λ d. record { window = d.window; answer = answer_record d.answer; list = answer_spans d.pool d.answer } };
 
-    ghost invariant = { λ d. IsDayResult (record { window = d.window; answer = answer_record d.answer; list = answer_spans d.answer }) };
+    ghost invariant = { λ d. IsHeld d.pool d.answer × IsDayResult (record { window = d.window; answer = answer_record d.answer; list = answer_spans d.pool d.answer }) };
 }
 
 impl DayResult {
-    ghost use Rattle.span_bisect.specs.Answer.{answer_record, answer_spans};
+    ghost use Rattle.span_bisect.specs.Answer.{IsHeld, answer_record, answer_spans};
     ghost use Rattle.top_call.specs.Day.{IsDayResult};
     ghost use Rattle.top_call.specs.Whole.{has_spans};
 
-    /// The result of an answer for a window in which every tick of it lies.
-    pub(crate) fn of(window: Window, answer: TrackAnswer) -> DayResult
-        requires { IsDayResult (record { window = window; answer = answer_record answer; list = answer_spans answer }) }
-        ensures { result ≡ record { window = window; answer = answer_record answer; list = answer_spans answer } }
+    /// The result of an answer for a window in which every tick of it lies, with the pool that holds its spans.
+    pub(crate) fn of(window: Window, pool: SpanPool, answer: TrackAnswer) -> DayResult
+        requires held { IsHeld pool answer }
+        requires inside { IsDayResult (record { window = window; answer = answer_record answer; list = answer_spans pool answer }) }
+        ensures { result ≡ record { window = window; answer = answer_record answer; list = answer_spans pool answer } }
     {
-        DayResult { window, answer }
+        DayResult {
+            window,
+            pool,
+            answer,
+        }
     }
 
     /// The window.
@@ -44,23 +50,35 @@ impl DayResult {
         self.window
     }
 
-    /// The answer. Its ticks lie in the window.
+    /// The answer. Its ticks lie in the window, and it never decays.
     pub fn answer(&self) -> &TrackAnswer
         ensures answer { answer_record result.now ≡ self.now.answer }
-        ensures spans { answer_spans result.now ≡ self.now.list }
         ensures inside { IsDayResult self.now }
     {
         &self.answer
     }
 
-    /// The span at place `k`, counted from 0. There is none where `k` is not below the count, or the answer has no spans.
+    /// How many spans there are.
+    pub fn count(&self) -> u32
+        ensures { result ≡ length self.now.list }
+    {
+        match &self.answer {
+            TrackAnswer::Spans(track) => track.count(),
+            TrackAnswer::Unresolved { .. } => 0,
+            TrackAnswer::Full { .. } => 0,
+            TrackAnswer::Decays { .. } => 0,
+        }
+    }
+
+    /// The span at place `k`, counted from 0. There is none where `k` is not below the count.
     pub fn span(&self, k: u32) -> Option<Span>
         ensures { result ≡ slice_get self.now.list k }
     {
         match &self.answer {
-            TrackAnswer::Spans(track) => track.span(k),
+            TrackAnswer::Spans(track) => self.pool.get(track, k),
             TrackAnswer::Unresolved { .. } => None,
             TrackAnswer::Full { .. } => None,
+            TrackAnswer::Decays { .. } => None,
         }
     }
 
@@ -72,6 +90,7 @@ impl DayResult {
             TrackAnswer::Spans(_) => true,
             TrackAnswer::Unresolved { .. } => false,
             TrackAnswer::Full { .. } => false,
+            TrackAnswer::Decays { .. } => false,
         }
     }
 }

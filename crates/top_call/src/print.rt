@@ -5,10 +5,9 @@ ghost use Rattle.top_call.specs.Day.{IsInside, day_text};
 ghost use Rattle.top_call.specs.Printed.{IsCutOff, IsWhole};
 
 use crate::day::DayResult;
-use elements::Window;
 use outside_io::{Failed, Sink};
 use pass_text::{END, PASSDAY, full_line, span_line, unresolved_line, window_line};
-use span_bisect::{Track, TrackAnswer};
+use span_bisect::TrackAnswer;
 
 /// Puts the whole layout.
 pub(crate) fn print_day<K: Sink>(day: &DayResult, out: &mut K) -> Result<(), Failed>
@@ -60,12 +59,13 @@ fn print_answer<K: Sink>(day: &DayResult, out: &mut K) -> Result<(), Failed>
 {
     let window = day.window();
     match day.answer() {
-        TrackAnswer::Spans(track) => print_spans(window, track, out),
+        TrackAnswer::Spans(_) => print_spans(day, out),
         TrackAnswer::Unresolved { from, to } => put_line(
             unresolved_line(window, *from, *to).bytes(),
             out,
         ),
         TrackAnswer::Full { at } => put_line(full_line(window, *at).bytes(), out),
+        TrackAnswer::Decays { .. } => unreachable!(),
     }
 }
 
@@ -81,13 +81,14 @@ pub(crate) fn put_line<K: Sink>(line: &[u8], out: &mut K) -> Result<(), Failed>
 }
 
 /// Puts a line for each span.
-fn print_spans<K: Sink>(window: Window, track: &Track, out: &mut K) -> Result<(), Failed>
-    requires { All (IsInside window.ticks) track.now }
-    ensures whole { OnOk result (IsWhole (K.faults out.old) (K.faults out.new) (K.written out.old) (K.written out.new) (day_span_lines window.start track.now)) }
-    ensures cut { OnErr result (IsCutOff (K.faults out.old) (K.faults out.new) (K.written out.old) (K.written out.new) (day_span_lines window.start track.now)) }
+fn print_spans<K: Sink>(day: &DayResult, out: &mut K) -> Result<(), Failed>
+    requires { All (IsInside day.now.window.ticks) day.now.list }
+    ensures whole { OnOk result (IsWhole (K.faults out.old) (K.faults out.new) (K.written out.old) (K.written out.new) (day_span_lines day.now.window.start day.now.list)) }
+    ensures cut { OnErr result (IsCutOff (K.faults out.old) (K.faults out.new) (K.written out.old) (K.written out.new) (day_span_lines day.now.window.start day.now.list)) }
 {
-    for k in 0..track.count() {
-        if let Some(span) = track.span(k) {
+    let window = day.window();
+    for k in 0..day.count() {
+        if let Some(span) = day.span(k) {
             match put_line(span_line(window, span).bytes(), out) {
                 Ok(()) => {}
                 Err(Failed) => return Err(Failed),

@@ -1,19 +1,20 @@
 //! The track of daylight.
-ghost use Rattle.std.specs.Prelude.{IfOk};
+ghost use Rattle.std.specs.Prelude.{◌≡◌, IfOk};
 ghost use Rattle.pass_words.specs.Ranges.{IsPlace};
-ghost use Rattle.top_call.specs.Day.{IsDayAt};
+ghost use Rattle.span_pool.specs.Pool.{slots_used};
+ghost use Rattle.top_call.specs.Day.{IsDayAt, slot_limit};
 
 use crate::day::DayResult;
 use elements::{Decimal, Window};
 use orbit_sight::DayJudge;
-use span_bisect::cover;
+use span_bisect::{SpanPool, cover};
 use station_view::Spot;
 use std::alloc::{AllocError, Global};
 
 /// The most spans of one result.
 const SLOTS: u32 = 1_048_576;
 
-/// The daylight of a place over a window.
+/// The daylight of a place over a window. All memory is taken first.
 pub(crate) fn track_day(
     alloc: Global,
     lat: Decimal,
@@ -23,10 +24,21 @@ pub(crate) fn track_day(
     requires { IsPlace lat lon }
     ensures { IfOk result (λ day. IsDayAt lat lon window day) }
 {
-    let spot = Spot::fix(lat, lon);
-    let judge = DayJudge::make(&spot, window);
-    match cover(alloc, &judge, window.resolution(), SLOTS) {
-        Ok(cover) => Ok(DayResult::of(window, cover.answer)),
+    match SpanPool::with_slots(alloc, SLOTS) {
+        Ok(pool) => Ok(track_in(pool, lat, lon, window)),
         Err(AllocError) => Err(AllocError),
     }
+}
+
+/// The daylight of a place over a window, in a pool that is still empty.
+fn track_in(mut pool: SpanPool, lat: Decimal, lon: Decimal, window: Window) -> DayResult
+    requires place { IsPlace lat lon }
+    requires slots { pool.slots ≡ slot_limit }
+    requires empty { slots_used pool ≡ 0 }
+    ensures { IsDayAt lat lon window result }
+{
+    let spot = Spot::fix(lat, lon);
+    let judge = DayJudge::make(&spot, window);
+    let answer = cover(&judge, window.resolution(), &mut pool).answer;
+    DayResult::of(window, pool, answer)
 }

@@ -1,6 +1,6 @@
 use Rattle.std.proofs.Common.{arith, ◌≡◌, ◌+◌, ◌++◌, ◌∷◌, [], refl}
 use Rattle.span_bisect.proofs.StackLemmas.{taken, next, below, room, halve}
-use Rattle.span_bisect.proofs.ReadingLemmas.{part_yes, part_no, part_undecided}
+use Rattle.span_bisect.proofs.ReadingLemmas.{part_yes, part_no, part_undecided, sink}
 use Rattle.span_bisect.proofs.bisect.next_part.Goals as goal
 
 pub loop-ends-init : goal.loop-ends-init
@@ -30,3 +30,7 @@ pub returns-else-to-at-gt1-clause-part : goal.returns-else-to-at-gt1-clause-part
 returns-else-to-at-gt1-clause-part g c =
     let e : c.loop-ends.to ≡ c.args.at + 1 = omega (arith, c.loop-ends.invariant.next.order) in
     part_undecided _ _ _ e (c.in-Unsure.ensures.unsure refl e)
+
+pub returns-in-Sinks-clause-sinks : goal.returns-in-Sinks-clause-sinks
+returns-in-Sinks-clause-sinks g c =
+    sink _ _ _ c.loop-ends.invariant.next.order (below _ _ _ c.loop-ends.invariant.stack) (c.in-Sinks.ensures.sinks refl)

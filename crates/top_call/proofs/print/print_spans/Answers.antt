@@ -1,4 +1,6 @@
-use Rattle.std.proofs.Common.{sym, ◌∙◌}
+use Rattle.std.proofs.Common.{ap, sym, ◌∙◌}
+use Rattle.elements.specs.Window.{WindowRecord}
+use Rattle.pass_text.specs.DayLayout.{day_letter, span_line}
 use Rattle.top_call.proofs.PrintedLemmas.{next_cut, one_more_printed, something_there}
 use Rattle.top_call.proofs.SpanLemmas.{span_lines}
 use Rattle.top_call.proofs.print.print_spans.Goals as goal
@@ -7,13 +9,20 @@ use Rattle.top_call.proofs.print.print_spans.Goals.{in-Some+in-Ok, in_default}
 pub returns-in-Err-clause-cut : goal.returns-in-Err-clause-cut
 returns-in-Err-clause-cut g c =
     let there = sym c.span.ensures ∙ c.in-Some.is in
-    next_cut (span_lines c.args.window.start) c.in-Some.span there c.loop-k.invariant (rw (c.bytes.ensures.value ∙ c.span_line.ensures) at c.in-Err.ensures.cut)
+    let line =
+    c.bytes.ensures.value ∙ c.span_line.ensures
+    ∙ ap (λ (window : WindowRecord). span_line (day_letter c.in-Some.span.mark) window.start c.in-Some.span) c.window-window.ensures in
+    next_cut (span_lines c.args.day.now.window.start) c.in-Some.span there c.loop-k.invariant (rw line at c.in-Err.ensures.cut)
 
 pub loop-k-preserved : goal.loop-k-preserved
 loop-k-preserved g c = elim c.match-span.branch [
-  | in-Some+in-Ok w ↦ rw w.out-is
-      (one_more_printed (span_lines c.args.window.start) w.in-Some.span (sym c.span.ensures ∙ w.in-Some.is) c.loop-k.invariant
-      (rw (w.bytes.ensures.value ∙ w.span_line.ensures) at w.in-Ok.ensures.whole))
+  | in-Some+in-Ok w ↦
+      let line =
+      w.bytes.ensures.value ∙ w.span_line.ensures
+      ∙ ap (λ (window : WindowRecord). span_line (day_letter w.in-Some.span.mark) window.start w.in-Some.span) c.window-window.ensures in
+      rw w.out-is
+      (one_more_printed (span_lines c.args.day.now.window.start) w.in-Some.span (sym c.span.ensures ∙ w.in-Some.is) c.loop-k.invariant
+      (rw line at w.in-Ok.ensures.whole))
   | in_default w ↦
-      absurd (something_there c.args.track.now c.loop-k.k (rw c.count-k-end.ensures at c.loop-k-test.true) (sym c.span.ensures ∙ w.in_default.is))
+      absurd (something_there c.args.day.now.list c.loop-k.k (rw c.count-k-end.ensures at c.loop-k-test.true) (sym c.span.ensures ∙ w.in_default.is))
 ]
