@@ -9,5 +9,5 @@ mod RestLemmas
 mod RoundLemmas
 mod RootLemmas
 pub mod SizeLemmas
-mod SizedLemmas
+pub mod SizedLemmas
 mod SpreadLemmas

@@ -1,16 +1,24 @@
 -- The distance of a position, and its eccentricity vector, where the perigee is at least 300 km high.
-use Rattle.std.proofs.Common.{[], ◌∷◌, pos, negsuc, subst, sym, ◌≡◌}
-use Rattle.exact.specs.Rational.{ℚ, ◌+ℚ◌, ◌-ℚ◌, ◌*ℚ◌, ◌/ℚ◌, ◌^ℚ◌, abs_ℚ, inverse, ratio, one_ℚ, zero_ℚ, ◌≤ℚ◌}
-use Rattle.exact.proofs.RationalRing.{reads}
-use Rattle.exact.proofs.Order.{◌⊕◌, gap, le_by, not_negative}
-use Rattle.exact.proofs.Intervals.{Inside, between, inside}
+use Rattle.std.proofs.Common.{[], ◌∷◌, ◌^◌, pos, negsuc, subst, sym, ap, ◌∙◌, ◌≡◌}
+use Rattle.exact.specs.Rational.{ℚ, ◌+ℚ◌, ◌-ℚ◌, ◌*ℚ◌, ◌/ℚ◌, ◌^ℚ◌, inverse, neg_ℚ, ratio, one_ℚ, zero_ℚ, ◌≤ℚ◌}
+use Rattle.exact.proofs.RationalRing.{ring, reads}
+use Rattle.exact.proofs.Bounds.{square}
+use Rattle.exact.proofs.Strict.{mul_inverse}
+use Rattle.exact.proofs.Order.{◌⊕◌, ◌⊗◌, gap, known, le_by, not_negative}
+use Rattle.exact.proofs.Intervals.{Inside, between, inside, le_on}
+use Rattle.sgp4_model.specs.Numerals.{decimal, whole}
 use Rattle.sgp4_model.specs.Angle.{IsPi, IsNear, part}
 use Rattle.sgp4_model.specs.OrbitRecords.{ConstRecord, MeanRecord}
 use Rattle.sgp4_model.specs.Position.{PeriodicRecord, IsPositionUnguarded}
 use Rattle.sgp4_model.specs.Vector.{Vector}
 use Rattle.sgp4_model.proofs.Pythagoras.{sine_pairs_are_bounded, squares_add_up_to_one}
-use Rattle.orbit_sight.proofs.NearOrbitLemmas.{axis, eccentricity, turn, tilt, first, second, product, length, gain, distance, latitude, axis_above, axis_inside, eccentricity_inside, mean_rectum_above, pairs_below, turn_inside, reciprocal_inside}
-use Rattle.orbit_sight.proofs.PeriodicLemmas.{tilt_inside, first_inside, second_inside, sizes_below, inner_inside, outer_inside, length_inside, inner_below, distance_from, distance_inside, gain_inside, root_inside, rectum_above, factors_inside, latitude_inside, corrected_above}
+use Rattle.orbit_sight.proofs.NearOrbitLemmas.{axis, eccentricity, turn, tilt, first, second, product, length, small_product, distance, latitude, ends, pairs_near, reciprocal, axis_above, axis_inside, eccentricity_inside, mean_rectum_above, pairs_below, turn_inside, reciprocal_inside}
+use Rattle.orbit_sight.proofs.PeriodicLemmas.{tilt_inside, first_inside, second_inside, sizes_below, inner_inside, outer_inside, length_inside, inner_below, inner_small, change_small, distance_from, distance_inside, root_inside, rectum_above, factors_inside, corrected_above}
+use Rattle.sgp4_periodic.proofs.PairLemmas.{pair_sized}
+use Rattle.sgp4_periodic.specs.Box.{IsInBox}
+use Rattle.kepler_enc.specs.Guess.{AreSized}
+use Rattle.orbit_sight.proofs.LatitudeLemmas.{both_below, sine_small, squares_below}
+use Rattle.orbit_sight.specs.TakenBoxes.{taken_position}
 
 -- what is known of the constants and mean elements of an orbit whose perigee is at least 300 km high, within seven days of its epoch
 pub record IsNearOrbit (k : ConstRecord) (m : MeanRecord) (factor : ℚ) : Type 0 where
@@ -96,11 +104,6 @@ module _ (k : ConstRecord) (m : MeanRecord) (q : PeriodicRecord) (factor pi root
   of_distance : Inside distance q.rl
   of_distance = subst (Inside distance) (sym position.preliminaries.rl_is) (distance_inside m.am q.ec of_axis of_inner distance_low)
 
-  of_gain : Inside gain (m.am /ℚ q.rl)
-  of_gain =
-      subst (λ t. Inside gain (m.am /ℚ t)) (sym position.preliminaries.rl_is)
-      (gain_inside m.am q.ec of_axis (le_by (k.e ∷ q.ec ∷ []) (gap inner_near ⊕ gap orbit.most) (search reads depth 90) tt) distance_low)
-
   -- ---- its correction
   of_square_root : Inside (between (pos 0) 1 (pos 105) 100) q.b
   of_square_root = root_inside q.el q.b of_length position.preliminaries.b_is
@@ -114,26 +117,106 @@ module _ (k : ConstRecord) (m : MeanRecord) (q : PeriodicRecord) (factor pi root
   of_second_factor : Inside (between (pos 0) 1 (pos 62) 100000) q.k2
   of_second_factor = rw (position.argument_of_latitude.k2_is, position.argument_of_latitude.k1_is) (factors_inside q.pl rectum_low).1
 
-  of_latitude : Inside latitude q.su
-  of_latitude =
-      subst (Inside latitude) (sym position.argument_of_latitude.su_is)
-      (latitude_inside (m.am /ℚ q.rl) q.of_root.sine q.ax q.ay q.es (inverse (one_ℚ +ℚ q.b)) of_gain of_sine of_first of_second of_outer
-      (reciprocal_inside (le_by (q.b ∷ []) (not_negative position.preliminaries.b_is.root) (search reads depth 90) tt)))
+  -- ---- the argument of latitude
+  of_small_inner : Inside small_product q.ec
+  of_small_inner =
+      rw (position.preliminaries.ec_is, position.long_period.ax_is, position.long_period.ay_is)
+      (inner_small m.em q.of_wm.sine q.of_wm.cosine q.of_root.sine q.of_root.cosine (q.v *ℚ k.aycof) of_eccentricity of_tilt of_sine
+      (pairs_near q.of_wm.sine q.of_wm.cosine q.of_root.sine q.of_root.cosine
+      (squares_add_up_to_one pi m.wm q.of_wm.sine q.of_wm.cosine is_pi position.long_period.wm_pair)
+      (squares_add_up_to_one pi root q.of_root.sine q.of_root.cosine is_pi position.kepler.pair)))
+
+  near_square : ratio (pos 6) 10 ≤ℚ (one_ℚ -ℚ q.ec) *ℚ (one_ℚ -ℚ q.ec)
+  near_square =
+      let high = (ends (negsuc 2022) 10000 (pos 2023) 10000 of_small_inner).1 in
+      le_by (q.ec ∷ []) (gap high ⊗ (known 15954 10000 ⊕ gap high) ⊕ known 3632529 100000000) (search reads depth 90) tt
+
+  over : ℚ
+  over = inverse (one_ℚ +ℚ q.b)
+
+  of_over : Inside reciprocal over
+  unfolding over
+  of_over = reciprocal_inside (le_by (q.b ∷ []) (not_negative position.preliminaries.b_is.root) (search reads depth 90) tt)
+
+  first_numerator : ℚ
+  first_numerator = q.of_root.sine -ℚ q.ay -ℚ q.ax *ℚ q.es *ℚ over
+
+  second_numerator : ℚ
+  second_numerator = q.of_root.cosine -ℚ q.ax +ℚ q.ay *ℚ q.es *ℚ over
+
+  length_is : q.el ≡ q.ax *ℚ q.ax +ℚ q.ay *ℚ q.ay
+  length_is = position.preliminaries.el_is ∙ ring (q.ax ∷ q.ay ∷ []) (search reads depth 90) tt
+
+  -- the sum of their squares, of z as the outer product
+  abbrev sum_with : ℚ → ℚ
+  sum_with z = (q.of_root.sine -ℚ q.ay -ℚ q.ax *ℚ z *ℚ over) *ℚ (q.of_root.sine -ℚ q.ay -ℚ q.ax *ℚ z *ℚ over) +ℚ (q.of_root.cosine -ℚ q.ax +ℚ q.ay *ℚ z *ℚ over) *ℚ (q.of_root.cosine -ℚ q.ax +ℚ q.ay *ℚ z *ℚ over)
+
+  numerators : first_numerator *ℚ first_numerator +ℚ second_numerator *ℚ second_numerator ≤ℚ (one_ℚ -ℚ q.ec) *ℚ (one_ℚ -ℚ q.ec) +ℚ ratio (pos 1) 1000
+  unfolding first_numerator second_numerator over
+  numerators =
+      subst
+      (λ z. sum_with z ≤ℚ (one_ℚ -ℚ q.ec) *ℚ (one_ℚ -ℚ q.ec) +ℚ ratio (pos 1) 1000)
+      (sym position.preliminaries.es_is)
+      (subst
+      (λ z. sum_with (q.ax *ℚ q.of_root.sine -ℚ q.ay *ℚ q.of_root.cosine) ≤ℚ (one_ℚ -ℚ z) *ℚ (one_ℚ -ℚ z) +ℚ ratio (pos 1) 1000)
+      (sym position.preliminaries.ec_is)
+      (squares_below q.ax q.ay q.of_root.sine q.of_root.cosine q.b over (mul_inverse (one_ℚ +ℚ q.b) position.argument_of_latitude.b_divides) of_over
+      (squares_add_up_to_one pi root q.of_root.sine q.of_root.cosine is_pi position.kepler.pair)
+      (subst (λ z. IsNear (part 60) (q.b *ℚ q.b) (one_ℚ -ℚ z)) length_is position.preliminaries.b_is.square)
+      (inside (pos 0) 1 (pos 1) 1 (le_by (q.ax ∷ q.ay ∷ []) (square q.ax ⊕ square q.ay) (search reads depth 90) tt) (le_on (10 ^ 30) (first ∷ second ∷ []) (q.ax ∷ q.ay ∷ []) (of_first, (of_second, tt)) (search reads depth 90) tt))
+      (subst (Inside (between (negsuc 0) 1 (pos 1) 1)) position.preliminaries.es_is
+      (inside (negsuc 0) 1 (pos 1) 1 (le_on (10 ^ 30) (product ∷ []) (q.es ∷ []) (of_outer, tt) (search reads depth 90) tt) (le_on (10 ^ 30) (product ∷ []) (q.es ∷ []) (of_outer, tt) (search reads depth 90) tt)))))
+
+  -- a quotient by the distance, times the axis, times the distance over the axis
+  times_near : (z : ℚ) → m.am /ℚ q.rl *ℚ z *ℚ (one_ℚ -ℚ q.ec) ≡ z
+  times_near z =
+      ring (m.am ∷ inverse q.rl ∷ z ∷ q.ec ∷ []) {y = m.am *ℚ (one_ℚ -ℚ q.ec) *ℚ inverse q.rl *ℚ z} (search reads depth 90) tt
+      ∙ ap (λ t. t *ℚ inverse q.rl *ℚ z) (sym position.preliminaries.rl_is)
+      ∙ ap (λ t. t *ℚ z) (mul_inverse q.rl position.argument_of_latitude.rl_divides)
+      ∙ ring (z ∷ []) (search reads depth 90) tt
+
+  of_latitudes : Inside latitude q.su × Inside latitude q.cu
+  unfolding first_numerator second_numerator over
+  of_latitudes =
+      both_below q.su q.cu (one_ℚ -ℚ q.ec) first_numerator second_numerator near_square
+      (ap (λ t. t *ℚ (one_ℚ -ℚ q.ec)) position.argument_of_latitude.su_is ∙ times_near first_numerator)
+      (ap (λ t. t *ℚ (one_ℚ -ℚ q.ec)) position.argument_of_latitude.cu_is ∙ times_near second_numerator)
+      numerators
 
   of_inclination : Inside turn k.c
   of_inclination =
       inside (negsuc 100000) 100000 (pos 100001) 100000 (le_by (k.c ∷ []) (gap orbit.cosine.below) (search reads depth 90) tt) (le_by (k.c ∷ []) (gap orbit.cosine.above) (search reads depth 90) tt)
 
-  corrected : ratio (pos 101) 100 ≤ℚ q.mrt
+  -- ---- what is added to it
+  change_near : IsNear (ratio (pos 26) 10000) q.du zero_ℚ
+  change_near =
+      subst (λ t. IsNear (ratio (pos 26) 10000) t zero_ℚ)
+      (ap (λ t. neg_ℚ (decimal 25 2) *ℚ q.k2 *ℚ (whole 7 *ℚ k.c ^ℚ 2 -ℚ one_ℚ) *ℚ t) (sym position.argument_of_latitude.s2_is) ∙ sym position.short_period.du_is)
+      (change_small q.k2 k.c q.su q.cu of_second_factor of_inclination of_latitudes.0 of_latitudes.1)
+
+  of_vector : AreSized 80304810855551 q.ax q.ay
+  of_vector =
+      rw (position.long_period.ax_is, position.long_period.ay_is)
+      (sizes_below m.em q.of_wm.sine q.of_wm.cosine (q.v *ℚ k.aycof) of_eccentricity of_tilt (pair_sized pi m.wm q.of_wm.sine q.of_wm.cosine is_pi position.long_period.wm_pair))
+
+  in_box : IsInBox q taken_position
+  in_box = record {
+    vector = of_vector;
+    inner = of_small_inner;
+    su = of_latitudes.0;
+    cu = of_latitudes.1;
+    change = sine_small pi q.du q.of_du.sine q.of_du.cosine is_pi position.corrected_latitude.du_pair change_near;
+  }
+
+  corrected : ratio (pos 1034) 1000 ≤ℚ q.mrt
   corrected =
       rw (position.short_period.mrt_is, position.argument_of_latitude.c2_is)
-      (corrected_above q.rl q.k1 q.k2 q.b k.con41 k.c q.su of_distance of_factor of_second_factor of_square_root (inside (negsuc 1000) 1000 (pos 2001) 1000 orbit.con41_low orbit.con41_high) of_inclination of_latitude)
+      (corrected_above q.rl q.k1 q.k2 q.b k.con41 k.c q.su of_distance of_factor of_second_factor of_square_root (inside (negsuc 1000) 1000 (pos 2001) 1000 orbit.con41_low orbit.con41_high) of_inclination of_latitudes.0)
 
--- the distance is at least 1.01 Earth radii
-pub distance_above : (k : ConstRecord) (m : MeanRecord) (q : PeriodicRecord) (factor pi root : ℚ) (r : Vector) → IsPi pi → IsNearOrbit k m factor → IsPositionUnguarded k m q pi root r → ratio (pos 101) 100 ≤ℚ q.mrt
+-- the distance is at least 1.034 Earth radii
+pub distance_above : (k : ConstRecord) (m : MeanRecord) (q : PeriodicRecord) (factor pi root : ℚ) (r : Vector) → IsPi pi → IsNearOrbit k m factor → IsPositionUnguarded k m q pi root r → ratio (pos 1034) 1000 ≤ℚ q.mrt
 distance_above k m q factor pi root r is_pi orbit position = corrected k m q factor pi root r is_pi orbit position
 
--- the components of the eccentricity vector
-pub vector_within : (k : ConstRecord) (m : MeanRecord) (q : PeriodicRecord) (factor pi root : ℚ) (r : Vector) → IsPi pi → IsNearOrbit k m factor → IsPositionUnguarded k m q pi root r → abs_ℚ q.ax +ℚ abs_ℚ q.ay ≤ℚ ratio (pos 4046) 10000
-vector_within k m q factor pi root r is_pi orbit position =
-    sizes_below q.ax q.ay (of_first k m q factor pi root r is_pi orbit position) (of_second k m q factor pi root r is_pi orbit position)
+-- the quantities lie in the box
+pub position_in_box : (k : ConstRecord) (m : MeanRecord) (q : PeriodicRecord) (factor pi root : ℚ) (r : Vector) → IsPi pi → IsNearOrbit k m factor → IsPositionUnguarded k m q pi root r → IsInBox q taken_position
+position_in_box k m q factor pi root r is_pi orbit position = in_box k m q factor pi root r is_pi orbit position

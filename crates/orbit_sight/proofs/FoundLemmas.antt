@@ -1,13 +1,14 @@
 -- Within seven days of the epoch bounds are found: no guard fails.
-use Rattle.std.proofs.Common.{arith, inl, inr, subst, true, [], ◌∷◌, ◌<◌, ◌*◌, ◌^◌, ℤ, pos, unsigned_abs}
+use Rattle.std.proofs.Common.{arith, inl, inr, subst, sym, true, [], ◌∷◌, ◌<◌, ◌*◌, ◌^◌, ℤ, pos, unsigned_abs}
 use Rattle.std.proofs.lemmas.Int.{ints, by_lt_z}
-use Rattle.exact.specs.Rational.{◌*ℚ◌}
+use Rattle.exact.specs.Rational.{◌*ℚ◌, ◌≤ℚ◌}
 use Rattle.exact.proofs.Order.{gap, known, le_by, ◌⊕◌}
-use Rattle.exact.proofs.RationalRing.{reads}
+use Rattle.exact.proofs.RationalRing.{number_of, reads}
 use Rattle.elements.specs.Elements.{ElementsRecord, record_of_elements}
 use Rattle.enc_plain.specs.declared.plain.Plain.{Plain}
 use Rattle.enc_plain.proofs.PlainHeld.{middle}
 use Rattle.fixed_iv.specs.Reach.{IsHeld}
+use Rattle.fixed_iv.proofs.OuterLemmas.{number_ratio}
 use Rattle.sgp4_drag.specs.Secular.{IsOutOfGuard}
 use Rattle.sgp4_init.specs.ReachConsts.{reach_consts}
 use Rattle.sgp4_model.specs.Angle.{least_pi}
@@ -22,13 +23,14 @@ use Rattle.sgp4_shape.specs.declared.consts.Consts.{Consts}
 use Rattle.sgp4_shape.specs.declared.mean.Mean.{Mean}
 use Rattle.sgp4_periodic.specs.Unplaced.{IsUnplaced}
 use Rattle.sgp4_periodic.proofs.PlaceLemmas.{ellipse_of_position}
+use Rattle.orbit_sight.specs.Box.{IsFit, IsOrbitInBox, OrbitBox}
 use Rattle.orbit_sight.specs.Craft.{plain_covers, plain_extent}
 use Rattle.orbit_sight.specs.Moment.{units_from}
+use Rattle.orbit_sight.specs.TakenBoxes.{cell_box, instant_box, taken_far}
 use Rattle.orbit_sight.proofs.DayLemmas.{some_pi}
 use Rattle.orbit_sight.proofs.GuardLemmas.{distance_certified, inside_guard, rectum_certified, vector_certified}
 use Rattle.orbit_sight.proofs.MomentLemmas.{minutes_are}
 use Rattle.orbit_sight.proofs.SolutionLemmas.{Solution}
-use Rattle.orbit_sight.proofs.WidthLemmas.{mean_reach, most_vector, week}
 
 -- what is not near is away
 pub away_unless : (z : ℤ) → ((¬ (604800 * 10 ^ 9 < unsigned_abs z)) → ⊥) → 604800 * 10 ^ 9 < unsigned_abs z
@@ -45,7 +47,7 @@ module _ (set : ElementsRecord) (at : ℤ) (consts : Consts Plain) (known_at : S
   position_of = record {
     periodic = periodic;
     unguarded = known_at.position_is;
-    guarded = le_by (periodic.mrt ∷ []) (gap known_at.far ⊕ known 1 100) (search reads depth 90) tt;
+    guarded = le_by (periodic.mrt ∷ []) (gap known_at.far ⊕ known 34 1000) (search reads depth 90) tt;
   }
 
   pub position_at : (r : Vector) × IsPositionAt (record_of_elements set) (instant_of_nanos at) r
@@ -63,18 +65,32 @@ module _ (set : ElementsRecord) (at : ℤ) (consts : Consts Plain) (known_at : S
     },
   )
 
+  far_enough : number_of taken_far ≤ℚ periodic.mrt
+  far_enough = subst (λ z. z ≤ℚ periodic.mrt) (sym (number_ratio taken_far)) known_at.far
+
+  -- it lies in the boxes of an instant and of a least cell
+  pub in_instant_box : IsOrbitInBox constants periodic instant_box
+  in_instant_box = record { drag = known_at.drag_in_box; position = known_at.in_box; far = far_enough }
+
+  pub in_cell_box : IsOrbitInBox constants periodic cell_box
+  in_cell_box = record { drag = known_at.drag_in_box; position = known_at.in_box; far = far_enough }
+
+-- what lies in a box that fits meets the guards
+module _ (b : OrbitBox) (fit : IsFit reach_consts b) (set : ElementsRecord) (at : ℤ) (consts : Consts Plain) (known_at : Solution set at consts) (in_box : IsOrbitInBox known_at.constants known_at.periodic b) where
+  open known_at use {constants, mean, periodic, secular}
+
   -- the eccentricity is inside its guard
-  pub not_out_of_guard : (time : Plain) → IsHeld plain_covers plain_extent true time middle (units_from set.epoch at) week → IsOutOfGuard plain_covers plain_extent true consts time → ⊥
+  pub not_out_of_guard : (time : Plain) → IsHeld plain_covers plain_extent true time middle (units_from set.epoch at) b.time → IsOutOfGuard plain_covers plain_extent true consts time → ⊥
   not_out_of_guard time held u =
-      u.outside (inside_guard u.ecc secular.ecc (u.held middle least_pi (units_from set.epoch at) constants secular mean reach_consts week some_pi known_at.held held known_at.mean_is))
+      u.outside (inside_guard (λ a h x k. k) tt reach_consts b fit u.ecc secular.ecc (u.held middle least_pi (units_from set.epoch at) constants secular mean reach_consts b.time b.drag some_pi known_at.held held in_box.drag known_at.mean_is))
 
   -- Kepler's equation, the semilatus rectum and the distance are certified
-  pub not_unplaced : (m : Mean Plain) → IsHeldMean plain_covers plain_extent true m middle mean mean_reach → IsUnplaced plain_covers plain_extent true consts m → ⊥
+  pub not_unplaced : (m : Mean Plain) → IsHeldMean plain_covers plain_extent true m middle mean b.mean → IsUnplaced plain_covers plain_extent true consts m → ⊥
   not_unplaced m held (inl u) =
-      let e = u.held middle least_pi constants mean periodic reach_consts mean_reach some_pi known_at.held held (ellipse_of_position known_at.position_is) in
+      let e = u.held middle least_pi constants mean periodic reach_consts b.mean some_pi known_at.held held (ellipse_of_position known_at.position_is) in
       elim u.outside [
-        | inl v ↦ vector_certified u.ellipse.ax u.ellipse.ay periodic.ax periodic.ay e.ax e.ay v
-        | inr f ↦ f (rectum_certified u.ellipse.pl periodic.pl e.pl)
+        | inl v ↦ vector_certified (λ a h x k. k) tt reach_consts b fit u.ellipse.ax u.ellipse.ay periodic.ax periodic.ay e.ax e.ay v
+        | inr f ↦ f (rectum_certified (λ a h x k. k) tt reach_consts b fit u.ellipse.pl periodic.pl e.pl)
       ]
   not_unplaced m held (inr u) =
-      u.low (distance_certified u.mrt periodic.mrt (u.held middle least_pi known_at.root constants mean periodic known_at.position reach_consts mean_reach most_vector some_pi known_at.held held known_at.position_is known_at.sized) known_at.far)
+      u.low (distance_certified (λ a h x k. k) tt reach_consts b fit u.mrt periodic.mrt (u.held middle least_pi known_at.root constants mean periodic known_at.position reach_consts b.mean b.position some_pi known_at.held held known_at.position_is in_box.position) in_box.far)

@@ -1,40 +1,35 @@
--- The guards are certified: where the numerals of an enclosure are known, its ends meet them.
-use Rattle.std.proofs.Common.{◌≡◌, arith, sym, subst, inl, inr, true, ◌≤◌, ◌+◌, ◌^◌, ◌⊎◌, ℕ, ℤ, pos, negsuc, T, [], ◌∷◌, ◌-ℤ◌}
+-- The guards are certified where numerals fit: bounds as wide as they say meet the guards.
+use Rattle.std.proofs.Common.{◌≡◌, arith, sym, subst, inl, inr, Bool, ◌≤◌, ◌+◌, ◌^◌, ◌⊎◌, ℕ, ℤ, pos, negsuc, suc, T, [], ◌∷◌}
 use Rattle.std.proofs.lemmas.Int.{ints}
-use lib.Signed.{non_neg}
-use Rattle.exact.specs.Rational.{ℚ, of_int, ratio, one_ℚ, zero_ℚ, neg_ℚ, ◌*ℚ◌, ◌≤ℚ◌, ◌<ℚ◌}
+use Rattle.exact.specs.Rational.{ℚ, of_int, ratio, one_ℚ, zero_ℚ, ◌≤ℚ◌, ◌<ℚ◌}
 use Rattle.exact.proofs.Integers.{ratio_is_product}
-use Rattle.exact.proofs.Intervals.{Inside, inside, le_on}
+use Rattle.exact.proofs.Intervals.{Inside, coef_le, coef_le_holds}
 use Rattle.exact.proofs.Order.{gap, known, le_by, le_trans, ◌⊕◌}
-use Rattle.exact.proofs.RationalRing.{reads}
+use Rattle.exact.proofs.RationalRing.{Coef, number_of, reads}
 use Rattle.exact.proofs.Strict.{lt_by, positive_known, positive_sum}
-use Rattle.elements.specs.Elements.{ElementsRecord}
-use Rattle.enc_plain.specs.declared.plain.Plain.{Plain}
-use Rattle.enc_plain.proofs.PlainHeld.{middle}
-use Rattle.fixed_iv.specs.Extent.{Extent, extent_of, size}
-use Rattle.fixed_iv.specs.Holds.{Holds, IsBounded}
+use Rattle.fixed_iv.specs.Extent.{Extent, size}
+use Rattle.fixed_iv.specs.Holds.{Holds}
 use Rattle.fixed_iv.specs.Place.{Place}
-use Rattle.fixed_iv.specs.Reach.{IsHeld, IsKnown, Reach, from_to, given, greater_of, outer, outer_size, turned, ◌+ᴿ◌, ◌-ᴿ◌, ◌*ᴿ◌, ◌/ᴿ◌}
-use Rattle.fixed_iv.specs.ReachRoots.{root_least, root_range, rooted}
+use Rattle.fixed_iv.specs.Reach.{IsHeld, IsKnown, Reach, outer, outer_size}
 use Rattle.fixed_iv.specs.declared.iv.Iv.{Iv}
 use Rattle.fixed_iv.proofs.EndLemmas.{at, at_le, le_at}
-use Rattle.fixed_iv.proofs.Held.{within}
+use Rattle.fixed_iv.proofs.Held.{Contained, within}
 use Rattle.fixed_iv.proofs.OuterLemmas.{in_outer, number_ratio, size_known}
 use Rattle.kepler_enc.specs.Guard.{IsUnguarded}
-use Rattle.kepler_enc.specs.Spread.{ball_of, bettered, betters, guesses, left_first, left_last, left_over, moved, next_left, rest_of, root_from, root_of, spread_of, stepped_to, steps}
-use Rattle.sgp4_drag.specs.Secular.{IsOutOfGuard, reach_ecc}
+use Rattle.sgp4_drag.specs.Secular.{reach_ecc, reach_mean}
 use Rattle.sgp4_drag.specs.Guard.{IsInsideGuard}
-use Rattle.sgp4_init.specs.ReachConsts.{reach_consts}
 use Rattle.sgp4_model.specs.MeanElements.{IsEccentricityGuarded}
-use Rattle.sgp4_model.specs.Numerals.{decimal}
+use Rattle.sgp4_model.specs.OrbitRecords.{MeanRecord}
+use Rattle.sgp4_model.specs.Vector.{Vector}
+use Rattle.sgp4_periodic.specs.Covered.{IsHeldPosition, PositionReach}
 use Rattle.sgp4_periodic.specs.Ellipse.{reach_ellipse}
 use Rattle.sgp4_periodic.specs.Guards.{AreAtLeast1, LieAbove0}
-use Rattle.sgp4_periodic.specs.Placed.{reach_at}
-use Rattle.orbit_sight.specs.Craft.{plain_covers, plain_extent}
-use Rattle.orbit_sight.proofs.WidthLemmas.{mean_reach, most_vector, week}
-
-abbrev Held : Plain → ℚ → Reach → Type 0
-Held = λ a x r. IsHeld plain_covers plain_extent true a middle x r
+use Rattle.sgp4_periodic.specs.Placed.{reach_at, reach_place}
+use Rattle.sgp4_shape.specs.HeldConsts.{ConstReach}
+use Rattle.sgp4_shape.specs.HeldMean.{IsHeldMean, MeanReach}
+use Rattle.sgp4_shape.specs.declared.mean.Mean.{Mean}
+use Rattle.fixed_iv.specs.declared.vec3.Vec3.{Vec3}
+use Rattle.orbit_sight.specs.Box.{IsFit, OrbitBox, far_distance}
 
 -- ---- the ends of an interval are numbers that it holds
 low_held : (v : Iv) → Holds v (at v.lo)
@@ -47,86 +42,89 @@ in_parts : (z : ℤ) → at z ≡ ratio z (2 ^ 48)
 unfolding at
 in_parts z = sym (ratio_is_product z 281474976710656)
 
-low_inside : (v : Iv) (x : ℚ) (r : Reach) → IsKnown (extent_of v) x r.range r.spread → Holds v x → Inside (outer r) (ratio v.lo (2 ^ 48))
-low_inside v x r k h = subst (Inside (outer r)) (in_parts v.lo) (in_outer (extent_of v) x r k h (at v.lo) (low_held v))
+low_inside : (e : Extent) (x : ℚ) (r : Reach) → IsKnown e x r.range r.spread → Holds e.ends x → Inside (outer r) (ratio e.ends.lo (2 ^ 48))
+low_inside e x r k h = subst (Inside (outer r)) (in_parts e.ends.lo) (in_outer e x r k h (at e.ends.lo) (low_held e.ends))
 
-high_inside : (v : Iv) (x : ℚ) (r : Reach) → IsKnown (extent_of v) x r.range r.spread → Holds v x → Inside (outer r) (ratio v.hi (2 ^ 48))
-high_inside v x r k h = subst (Inside (outer r)) (in_parts v.hi) (in_outer (extent_of v) x r k h (at v.hi) (high_held v))
+high_inside : (e : Extent) (x : ℚ) (r : Reach) → IsKnown e x r.range r.spread → Holds e.ends x → Inside (outer r) (ratio e.ends.hi (2 ^ 48))
+high_inside e x r k h = subst (Inside (outer r)) (in_parts e.ends.hi) (in_outer e x r k h (at e.ends.hi) (high_held e.ends))
 
--- ---- the eccentricity
-abbrev eccentricity : Reach
-eccentricity = from_to (negsuc 6) (pos 2007) 10000 9096
+-- a number inside a range that begins, or ends, at some fraction
+above : (m : ℤ) (d : ℕ) (c : Coef) (z : ℚ) → T (coef_le (record { num = m; under = d }) c) → number_of c ≤ℚ z → ratio m (suc d) ≤ℚ z
+above m d c z t h = le_trans (subst (λ y. y ≤ℚ number_of c) (number_ratio (record { num = m; under = d })) (coef_le_holds (record { num = m; under = d }) c t)) h
 
-guarded : (z : ℚ) → Inside (outer eccentricity) z → IsEccentricityGuarded z
-guarded z i =
-    let half : z ≤ℚ ratio (pos 1) 2 = le_on (10 ^ 30) (outer eccentricity ∷ []) (z ∷ []) (i, tt) (search reads depth 90) tt in
-    record {
-      low = le_on (10 ^ 30) (outer eccentricity ∷ []) (z ∷ []) (i, tt) (search reads depth 90) tt;
-      high = lt_by (z ∷ []) (positive_sum (positive_known 0 2) (gap half)) (search reads depth 90) tt;
-    }
+below : (m : ℤ) (d : ℕ) (c : Coef) (z : ℚ) → T (coef_le c (record { num = m; under = d })) → z ≤ℚ number_of c → z ≤ℚ ratio m (suc d)
+below m d c z t h = le_trans h (subst (λ y. number_of c ≤ℚ y) (number_ratio (record { num = m; under = d })) (coef_le_holds c (record { num = m; under = d }) t))
 
-pub inside_guard : (a : Plain) (x : ℚ) → Held a x (reach_ecc reach_consts week) → IsInsideGuard a.iv
-unfolding ◌+ᴿ◌ ◌-ᴿ◌ ◌*ᴿ◌ ◌/ᴿ◌ given turned greater_of
-inside_guard a x held =
-    let k = within eccentricity held tt in
-    record { low = guarded _ (low_inside a.iv x eccentricity (k.known tt tt) k.covers); high = guarded _ (high_inside a.iv x eccentricity (k.known tt tt) k.covers) }
+half_above_0 : (z : ℚ) → ratio (pos 1) 2 ≤ℚ z → zero_ℚ <ℚ z
+half_above_0 z half = lt_by (z ∷ []) (positive_sum (positive_known 0 2) (gap half)) (search reads depth 90) tt
 
--- ---- Kepler's equation
-abbrev component : Reach
-component = from_to (negsuc 2018) (pos 2019) 10000 900000
+guarded_between : (z : ℚ) → ratio (negsuc 0) 1000 ≤ℚ z → z ≤ℚ ratio (pos 1) 2 → IsEccentricityGuarded z
+guarded_between z low half = record {
+  low = le_by (z ∷ []) (gap low) (search reads depth 90) tt;
+  high = lt_by (z ∷ []) (positive_sum (positive_known 0 2) (gap half)) (search reads depth 90) tt;
+}
 
-of_test : (n m : ℕ) → T (non_neg (pos m -ℤ pos n)) → n ≤ m
-of_test n m t = omega (arith, ints, t)
+small_sizes : (m n a : ℕ) → m ≤ a → n ≤ a → a ≤ 60000000000000 → 281474976710656 ≤ m + n → ⊥
+small_sizes m n a p q r t = omega (arith, p, q, r, t)
 
-small_sizes : (m n a b : ℕ) → m ≤ a → n ≤ b → a ≤ 60000000000000 → b ≤ 60000000000000 → 281474976710656 ≤ m + n → ⊥
-small_sizes m n a b p q r s t = omega (arith, p, q, r, s, t)
+-- numerals for each coordinate
+abbrev pub box_position : OrbitBox → PositionReach
+box_position b = record { x = b.coordinate; y = b.coordinate; z = b.coordinate }
 
-component_small : outer_size component ≤ 60000000000000
-component_small = of_test (outer_size component) 60000000000000 tt
+module _ {A : Type 0} {C : A → Place → ℚ → Type 0} {E : A → Extent} {told : Bool} (law : Contained C E) (is_told : T told) (k : ConstReach) (b : OrbitBox) (fit : IsFit k b) {h : Place} where
+  -- ---- the mean elements
+  pub mean_within : {mean : Mean A} {m : MeanRecord} → IsHeldMean C E told mean h m (reach_mean k b.time b.drag) → IsHeldMean C E told mean h m b.mean
+  mean_within held = record {
+    am = within b.mean.am held.am fit.mean.am;
+    em = within b.mean.em held.em fit.mean.em;
+    ml = within b.mean.ml held.ml fit.mean.ml;
+    wm = within b.mean.wm held.wm fit.mean.wm;
+    om = within b.mean.om held.om fit.mean.om;
+  }
 
-certified : (a b : Plain) (x y : ℚ) → Held a x component → Held b y component → IsUnguarded a.iv b.iv → ⊥
-certified a b x y h k (inl (inl f)) = f (h.known tt tt).measured.bounded
-certified a b x y h k (inl (inr f)) = f (k.known tt tt).measured.bounded
-certified a b x y h k (inr f) =
-    small_sizes (size a.iv) (size b.iv) (outer_size component) (outer_size component)
-    (size_known (extent_of a.iv) x component (h.known tt tt) h.covers) (size_known (extent_of b.iv) y component (k.known tt tt) k.covers) component_small component_small f
+  -- ---- the position
+  pub position_within : {position : Vec3 A} {v : Vector} → IsHeldPosition C E told position h v (reach_place k b.mean b.position) → IsHeldPosition C E told position h v (box_position b)
+  position_within held = record {
+    x = within b.coordinate held.x fit.position.x;
+    y = within b.coordinate held.y fit.position.y;
+    z = within b.coordinate held.z fit.position.z;
+  }
 
-pub vector_certified : (a b : Plain) (x y : ℚ) → Held a x (reach_ellipse reach_consts mean_reach).ax → Held b y (reach_ellipse reach_consts mean_reach).ay → IsUnguarded a.iv b.iv → ⊥
-unfolding ◌+ᴿ◌ ◌-ᴿ◌ ◌*ᴿ◌ ◌/ᴿ◌ given turned
-vector_certified a b x y h k u = certified a b x y (within component h tt) (within component k tt) u
+  -- ---- the eccentricity
+  pub inside_guard : (a : A) (x : ℚ) → IsHeld C E told a h x (reach_ecc k b.time b.drag) → IsInsideGuard (E a).ends
+  inside_guard a x held =
+      let w = within b.eccentricity held fit.mean.eccentricity in
+      let f = w.known is_told fit.certifies.eccentricity_ok in
+      let low = low_inside (E a) x b.eccentricity f (law a h x w.covers) in
+      let high = high_inside (E a) x b.eccentricity f (law a h x w.covers) in
+      record { low = between _ low; high = between _ high }
+    where
+      between : (z : ℚ) → Inside (outer b.eccentricity) z → IsEccentricityGuarded z
+      between z i = guarded_between z (above (negsuc 0) 999 _ z fit.certifies.eccentricity_low i.low) (below (pos 1) 1 _ z fit.certifies.eccentricity_high i.high)
 
--- ---- the semilatus rectum
-abbrev rectum : Reach
-rectum = from_to (pos 9) (pos 21) 10 1430000
+  -- ---- Kepler's equation
+  pub vector_certified : (a c : A) (x y : ℚ) → IsHeld C E told a h x (reach_ellipse k b.mean).ax → IsHeld C E told c h y (reach_ellipse k b.mean).ay → IsUnguarded (E a).ends (E c).ends → ⊥
+  vector_certified a c x y f g u =
+      let v = within b.component f fit.position.first in
+      let w = within b.component g fit.position.second in
+      certified (v.known is_told fit.certifies.component_ok) (w.known is_told fit.certifies.component_ok) (law a h x v.covers) (law c h y w.covers) u
+    where
+      certified : IsKnown (E a) x b.component.range b.component.spread → IsKnown (E c) y b.component.range b.component.spread → Holds (E a).ends x → Holds (E c).ends y → IsUnguarded (E a).ends (E c).ends → ⊥
+      certified f g v w (inl (inl u)) = u f.measured.bounded
+      certified f g v w (inl (inr u)) = u g.measured.bounded
+      certified f g v w (inr u) = small_sizes (size (E a).ends) (size (E c).ends) (outer_size b.component) (size_known (E a) x b.component f v) (size_known (E c) y b.component g w) fit.certifies.component_small u
 
-above_0 : (z : ℚ) → Inside (outer rectum) z → zero_ℚ <ℚ z
-above_0 z i =
-    let half : ratio (pos 1) 2 ≤ℚ z = le_on (10 ^ 30) (outer rectum ∷ []) (z ∷ []) (i, tt) (search reads depth 90) tt in
-    lt_by (z ∷ []) (positive_sum (positive_known 0 2) (gap half)) (search reads depth 90) tt
+  -- ---- the semilatus rectum
+  pub rectum_certified : (a : A) (x : ℚ) → IsHeld C E told a h x (reach_ellipse k b.mean).pl → LieAbove0 (E a).ends
+  rectum_certified a x held =
+      let w = within b.rectum held fit.position.rectum in
+      let low = low_inside (E a) x b.rectum (w.known is_told fit.certifies.rectum_ok) (law a h x w.covers) in
+      half_above_0 _ (above (pos 1) 1 _ _ fit.certifies.rectum_high low.low)
 
-pub rectum_certified : (a : Plain) (x : ℚ) → Held a x (reach_ellipse reach_consts mean_reach).pl → LieAbove0 a.iv
-unfolding ◌+ᴿ◌ ◌-ᴿ◌ ◌*ᴿ◌ ◌/ᴿ◌ given turned
-rectum_certified a x held =
-    let k = within rectum held tt in
-    above_0 _ (low_inside a.iv x rectum (k.known tt tt) k.covers)
-
--- ---- the distance
-abbrev distance : Reach
-distance = from_to (pos 6) (pos 28) 10 27600000
-
--- the same, where the distance is at least 1.01
-abbrev far_distance : Reach
-far_distance = from_to (pos 101) (pos 280) 100 27600000
-
-most_distance : (z : ℚ) → Inside (distance.range) z → z ≤ℚ ratio (pos 280) 100
-most_distance z i = le_trans (subst (λ y. z ≤ℚ y) (number_ratio (record { num = pos 28; under = 9 })) i.high) (le_by [] (known 0 1) (search reads depth 90) tt)
-
-at_least_1 : (z : ℚ) → Inside (outer far_distance) z → one_ℚ ≤ℚ z
-at_least_1 z i = le_on (10 ^ 30) (outer far_distance ∷ []) (z ∷ []) (i, tt) (search reads depth 90) tt
-
-pub distance_certified : (a : Plain) (x : ℚ) → Held a x (reach_at reach_consts mean_reach most_vector).mrt → ratio (pos 101) 100 ≤ℚ x → AreAtLeast1 a.iv
-unfolding ball_of bettered betters guesses left_first left_last left_over moved next_left rest_of root_from root_of root_least root_range rooted spread_of stepped_to steps ◌+ᴿ◌ ◌-ᴿ◌ ◌*ᴿ◌ ◌/ᴿ◌ given turned
-distance_certified a x held far =
-    let k = within distance held tt in
-    let f = k.known tt tt in
-    at_least_1 _ (low_inside a.iv x far_distance (record { inside = inside (pos 101) 100 (pos 280) 100 far (most_distance x f.inside); measured = f.measured; narrow = f.narrow }) k.covers)
+  -- ---- the distance
+  pub distance_certified : (a : A) (x : ℚ) → IsHeld C E told a h x (reach_at k b.mean b.position).mrt → number_of b.far ≤ℚ x → AreAtLeast1 (E a).ends
+  distance_certified a x held far =
+      let w = within b.distance held fit.position.distance in
+      let f = w.known is_told fit.certifies.distance_ok in
+      let low = low_inside (E a) x (far_distance b) (record { inside = record { low = far; high = f.inside.high }; measured = f.measured; narrow = f.narrow }) (law a h x w.covers) in
+      above (pos 1) 0 _ _ fit.certifies.distance_high low.low

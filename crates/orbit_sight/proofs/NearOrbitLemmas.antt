@@ -36,18 +36,19 @@ product = between (negsuc 4099) 10000 (pos 4100) 10000
 abbrev pub length : Interval
 length = between (negsuc 81) 1000 (pos 82) 1000
 
--- a reciprocal of a number that is at least 1, the quotient of axis and distance, the distance, the argument of latitude
+-- the inner product, by the squares of sine and cosine
+abbrev pub small_product : Interval
+small_product = between (negsuc 2022) 10000 (pos 2023) 10000
+
+-- a reciprocal of a number that is at least 1, the distance, the sine and the cosine of the argument of latitude
 abbrev pub reciprocal : Interval
 reciprocal = between (pos 0) 1 (pos 1) 1
-
-abbrev pub gain : Interval
-gain = between (pos 0) 1 (pos 13) 10
 
 abbrev pub distance : Interval
 distance = between (pos 1038) 1000 (pos 2800) 1000
 
 abbrev pub latitude : Interval
-latitude = between (negsuc 16) 10 (pos 17) 10
+latitude = between (negsuc 100) 100 (pos 101) 100
 
 -- ---- numbers
 -- a number lies in the interval that is computed from others
@@ -95,12 +96,22 @@ turn_inside {s} h =
     (le_by (s ∷ []) (gap h.below ⊕ known (2 ^ 60 - 10 ^ 5) (10 ^ 5 * 2 ^ 60)) (search reads depth 90) tt)
     (le_by (s ∷ []) (gap h.above ⊕ known (2 ^ 60 - 10 ^ 5) (10 ^ 5 * 2 ^ 60)) (search reads depth 90) tt)
 
--- the inner product of two pairs
+-- the inner product of two pairs, and its size
 pub pairs_below : (s c t d : ℚ) → IsNear (part 58) (s *ℚ s +ℚ c *ℚ c) one_ℚ → IsNear (part 58) (t *ℚ t +ℚ d *ℚ d) one_ℚ → c *ℚ d +ℚ s *ℚ t ≤ℚ ratio (pos 10001) 10000
 pairs_below s c t d h k =
     le_by (s ∷ c ∷ t ∷ d ∷ [])
     (known 1 2 ⊗ (gap h.above ⊕ gap k.above ⊕ square (c -ℚ d) ⊕ square (s -ℚ t)) ⊕ known (2 ^ 58 - 10 ^ 4) (10 ^ 4 * 2 ^ 58))
     (search reads depth 90) tt
+
+pub pairs_near : (s c t d : ℚ) → IsNear (part 58) (s *ℚ s +ℚ c *ℚ c) one_ℚ → IsNear (part 58) (t *ℚ t +ℚ d *ℚ d) one_ℚ → IsNear (ratio (pos 10001) 10000) (c *ℚ d +ℚ s *ℚ t) zero_ℚ
+pairs_near s c t d h k = record {
+  above = le_by (s ∷ c ∷ t ∷ d ∷ [])
+      (known 1 2 ⊗ (gap h.above ⊕ gap k.above ⊕ square (c -ℚ d) ⊕ square (s -ℚ t)) ⊕ known (2 ^ 58 - 10 ^ 4) (10 ^ 4 * 2 ^ 58))
+      (search reads depth 90) tt;
+  below = le_by (s ∷ c ∷ t ∷ d ∷ [])
+      (known 1 2 ⊗ (gap h.above ⊕ gap k.above ⊕ square (c +ℚ d) ⊕ square (s +ℚ t)) ⊕ known (2 ^ 58 - 10 ^ 4) (10 ^ 4 * 2 ^ 58))
+      (search reads depth 90) tt;
+}
 
 -- ---- the mean elements
 -- the semimajor axis, from the perigee

@@ -25,6 +25,7 @@ use Rattle.sgp4_shape.specs.Covering.{unit_minutes}
 use Rattle.sgp4_shape.specs.HeldConsts.{IsHeldConsts}
 use Rattle.sgp4_shape.specs.declared.consts.Consts.{Consts}
 use Rattle.orbit_sight.specs.Craft.{plain_covers, plain_extent}
+use Rattle.orbit_sight.proofs.BendLemmas.{bend_inside}
 use Rattle.orbit_sight.proofs.DistanceLemmas.{IsNearOrbit}
 
 -- ---- the time
@@ -178,3 +179,8 @@ module _ (set : SetRecord) (pi x : ℚ) (k : ConstRecord) (m : MeanRecord) (s : 
     con41_high = most_in (negsuc 1000) (pos 2001) 999 999 k.con41 (held.con41.known tt tt).inside;
     aycof = near_in (negsuc 1172) 1173 999999 k.aycof (ring [] (search reads depth 90) tt) (held.aycof.known tt tt).inside;
   }
+
+  pub bend_small : Inside (between (negsuc 85) 10000 (pos 86) 10000) (k.xmcof *ℚ k.eta)
+  bend_small =
+      bend_inside set pi k constants near_orbit.perigee e_low (le_trans (le_by [] (known 1047 1000) (search reads depth 90) tt) axis_above)
+      (near_in (negsuc 0) 1 999 k.bstar (ring [] (search reads depth 90) tt) (held.bstar.known tt tt).inside)

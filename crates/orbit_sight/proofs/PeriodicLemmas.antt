@@ -1,15 +1,17 @@
 -- Bounds of the periodic corrections of an orbit of an eccentricity of at most 0.2007, over plain numbers.
 use Rattle.std.proofs.Common.{◌-◌, ◌*◌, ◌^◌, [], ◌∷◌, pos, negsuc}
-use Rattle.exact.specs.Rational.{ℚ, ◌+ℚ◌, ◌-ℚ◌, ◌*ℚ◌, ◌/ℚ◌, ◌^ℚ◌, abs_ℚ, inverse, ratio, one_ℚ, zero_ℚ, ◌≤ℚ◌}
+use Rattle.exact.specs.Rational.{ℚ, ◌+ℚ◌, ◌-ℚ◌, ◌*ℚ◌, ◌/ℚ◌, ◌^ℚ◌, abs_ℚ, inverse, neg_ℚ, ratio, one_ℚ, zero_ℚ, ◌≤ℚ◌}
 use Rattle.exact.proofs.RationalRing.{reads}
 use Rattle.exact.proofs.Order.{◌⊕◌, ◌⊗◌, gap, known, le_by, not_negative}
-use Rattle.exact.proofs.Bounds.{abs_le, square}
+use Rattle.exact.proofs.Bounds.{abs_le, abs_not_negative, abs_product, abs_sum, square}
 use Rattle.exact.proofs.Strict.{Positive, positive_known, le_quotient, quotient_le}
 use Rattle.exact.proofs.Intervals.{Inside, between, inside, le_on}
+use Rattle.kepler_enc.specs.Guess.{AreSized}
+use Rattle.sgp4_model.specs.Angle.{IsNear}
 use Rattle.sgp4_model.specs.Numerals.{decimal, whole}
 use Rattle.sgp4_model.specs.Root.{IsSqrt}
 use Rattle.sgp4_model.specs.Wgs72.{j2}
-use Rattle.orbit_sight.proofs.NearOrbitLemmas.{axis, eccentricity, turn, tilt, first, second, product, length, reciprocal, gain, distance, latitude, ends, on, positive_above, quotient_inside}
+use Rattle.orbit_sight.proofs.NearOrbitLemmas.{axis, eccentricity, turn, tilt, first, second, product, length, small_product, reciprocal, distance, latitude, ends, on, positive_above, quotient_inside}
 
 -- ---- the eccentricity vector
 -- the long-period correction, from a divisor that is at least 1
@@ -23,16 +25,18 @@ first_inside m c h k = on (negsuc 2007) 10000 (pos 2008) 10000 (eccentricity ∷
 pub second_inside : (m s w : ℚ) → Inside eccentricity m → Inside turn s → Inside tilt w → Inside second (m *ℚ s +ℚ w)
 second_inside m s w h k l = on (negsuc 2019) 10000 (pos 2020) 10000 (eccentricity ∷ turn ∷ tilt ∷ []) (m ∷ s ∷ w ∷ []) (h, (k, (l, tt))) (search reads depth 90) tt (search reads depth 90) tt
 
--- the sum of their sizes
-pub sizes_below : (x y : ℚ) → Inside first x → Inside second y → abs_ℚ x +ℚ abs_ℚ y ≤ℚ ratio (pos 4046) 10000
-sizes_below x y h k =
-    le_by (abs_ℚ x ∷ abs_ℚ y ∷ []) (gap of_x ⊕ gap of_y ⊕ known 16 10000) (search reads depth 90) tt
+-- the sum of their sizes, from that of a pair's
+pub sizes_below : (m s c w : ℚ) → Inside eccentricity m → Inside tilt w → AreSized 398067541563744 c s → AreSized 80304810855551 (m *ℚ c) (m *ℚ s +ℚ w)
+sizes_below m s c w h k pair =
+    le_by (abs_ℚ c ∷ abs_ℚ s ∷ abs_ℚ m ∷ abs_ℚ w ∷ abs_ℚ (m *ℚ c) ∷ abs_ℚ (m *ℚ s) ∷ abs_ℚ (m *ℚ s +ℚ w) ∷ [])
+    (gap (abs_product m c) ⊕ gap (abs_sum (m *ℚ s) w) ⊕ gap (abs_product m s) ⊕ gap of_m ⊗ (abs_not_negative c ⊕ abs_not_negative s) ⊕ known 2007 10000 ⊗ gap pair ⊕ gap of_w ⊕ known 1284431891394829 4398046511104000000)
+    (search reads depth 90) tt
   where
-    of_x : abs_ℚ x ≤ℚ ratio (pos 2009) 10000
-    of_x = abs_le (le_on (10 ^ 30) (first ∷ []) (x ∷ []) (h, tt) (search reads depth 90) tt) (le_on (10 ^ 30) (first ∷ []) (x ∷ []) (h, tt) (search reads depth 90) tt)
+    of_m : abs_ℚ m ≤ℚ ratio (pos 2007) 10000
+    of_m = let e = ends (pos 0) 1 (pos 2007) 10000 h in abs_le (le_by (m ∷ []) (not_negative e.0 ⊕ known 2007 10000) (search reads depth 90) tt) e.1
 
-    of_y : abs_ℚ y ≤ℚ ratio (pos 2021) 10000
-    of_y = abs_le (le_on (10 ^ 30) (second ∷ []) (y ∷ []) (k, tt) (search reads depth 90) tt) (le_on (10 ^ 30) (second ∷ []) (y ∷ []) (k, tt) (search reads depth 90) tt)
+    of_w : abs_ℚ w ≤ℚ ratio (pos 1174) 1000000
+    of_w = let e = ends (negsuc 1173) 1000000 (pos 1174) 1000000 k in abs_le (le_by (w ∷ []) (gap e.0) (search reads depth 90) tt) e.1
 
 -- its products with a cosine d and a sine t
 pub inner_inside : (x y t d : ℚ) → Inside first x → Inside second y → Inside turn t → Inside turn d → Inside product (x *ℚ d +ℚ y *ℚ t)
@@ -59,6 +63,19 @@ inner_below e m s c t d w high in_m of_w of_t pairs =
     tilted : w *ℚ t ≤ℚ ratio (pos 12) 10000
     tilted = le_on (10 ^ 30) (tilt ∷ turn ∷ []) (w ∷ t ∷ []) (of_w, (of_t, tt)) (search reads depth 90) tt
 
+-- the inner product, by the squares of the two pairs
+pub inner_small : (m s c t d w : ℚ) → Inside eccentricity m → Inside tilt w → Inside turn t → IsNear (ratio (pos 10001) 10000) (c *ℚ d +ℚ s *ℚ t) zero_ℚ → Inside small_product (m *ℚ c *ℚ d +ℚ (m *ℚ s +ℚ w) *ℚ t)
+inner_small m s c t d w in_m of_w of_t pairs =
+    inside (negsuc 2022) 10000 (pos 2023) 10000
+    (le_by (m ∷ s ∷ c ∷ t ∷ d ∷ w ∷ []) (not_negative of_m.0 ⊗ gap pairs.below ⊕ known 10001 10000 ⊗ gap of_m.1 ⊕ gap tilted.0 ⊕ known 37993 100000000) (search reads depth 90) tt)
+    (le_by (m ∷ s ∷ c ∷ t ∷ d ∷ w ∷ []) (not_negative of_m.0 ⊗ gap pairs.above ⊕ known 10001 10000 ⊗ gap of_m.1 ⊕ gap tilted.1 ⊕ known 37993 100000000) (search reads depth 90) tt)
+  where
+    of_m : (zero_ℚ ≤ℚ m) × (m ≤ℚ ratio (pos 2007) 10000)
+    of_m = ends (pos 0) 1 (pos 2007) 10000 in_m
+
+    tilted : (ratio (negsuc 11) 10000 ≤ℚ w *ℚ t) × (w *ℚ t ≤ℚ ratio (pos 12) 10000)
+    tilted = (le_on (10 ^ 30) (tilt ∷ turn ∷ []) (w ∷ t ∷ []) (of_w, (of_t, tt)) (search reads depth 90) tt, le_on (10 ^ 30) (tilt ∷ turn ∷ []) (w ∷ t ∷ []) (of_w, (of_t, tt)) (search reads depth 90) tt)
+
 -- ---- the distance before its correction
 -- from the inner product x
 pub distance_from : (a e f x : ℚ) → ratio (pos 10470) 10000 ≤ℚ a *ℚ (one_ℚ -ℚ e) → ratio (pos 10470) 10000 ≤ℚ a → a ≤ℚ ratio (pos 19214) 10000 → ratio (pos 998) 1000 ≤ℚ f → f ≤ℚ ratio (pos 1002) 1000 →
@@ -76,19 +93,6 @@ distance_from a e f x perigee low high of_f to_f near =
 pub distance_inside : (a x : ℚ) → Inside axis a → Inside product x → ratio (pos 1038) 1000 ≤ℚ a *ℚ (one_ℚ -ℚ x) → Inside distance (a *ℚ (one_ℚ -ℚ x))
 distance_inside a x h k low =
     inside (pos 1038) 1000 (pos 2800) 1000 low (le_on (10 ^ 30) (axis ∷ product ∷ []) (a ∷ x ∷ []) (h, (k, tt)) (search reads depth 90) tt)
-
--- the quotient of the axis and it
-pub gain_inside : (a x : ℚ) → Inside axis a → x ≤ℚ ratio (pos 2021) 10000 → ratio (pos 1038) 1000 ≤ℚ a *ℚ (one_ℚ -ℚ x) → Inside gain (a /ℚ (a *ℚ (one_ℚ -ℚ x)))
-gain_inside a x h near above =
-    inside (pos 0) 1 (pos 13) 10
-    (le_quotient p (le_by (a ∷ x ∷ []) (not_negative low) (search reads depth 90) tt))
-    (quotient_le p (le_by (a ∷ x ∷ []) (not_negative low ⊗ (known 13 10 ⊗ gap near ⊕ known 3727 (10 ^ 5))) (search reads depth 90) tt))
-  where
-    p : Positive (a *ℚ (one_ℚ -ℚ x))
-    p = positive_above (positive_known 1037 1000) above
-
-    low : zero_ℚ ≤ℚ a
-    low = le_on (10 ^ 30) (axis ∷ []) (a ∷ []) (h, tt) (search reads depth 90) tt
 
 -- ---- its correction
 -- the square root of 1 less the square of the eccentricity
@@ -121,16 +125,18 @@ factors_inside p above = (
     two : (zero_ℚ ≤ℚ decimal 5 1 *ℚ j2 /ℚ p /ℚ p) × (decimal 5 1 *ℚ j2 /ℚ p /ℚ p ≤ℚ ratio (pos 62) 100000)
     two = quotient_inside above one.0 high (le_on (10 ^ 30) [] [] tt (search reads depth 90) tt)
 
--- the sine of the argument of latitude, from the quotient g, the pair's sine t, the vector, its outer product z and a reciprocal j
-pub latitude_inside : (g t x y z j : ℚ) → Inside gain g → Inside turn t → Inside first x → Inside second y → Inside product z → Inside reciprocal j → Inside latitude (g *ℚ (t -ℚ y -ℚ x *ℚ z *ℚ j))
-latitude_inside g t x y z j h k l m n o =
-    on (negsuc 16) 10 (pos 17) 10 (gain ∷ turn ∷ first ∷ second ∷ product ∷ reciprocal ∷ []) (g ∷ t ∷ x ∷ y ∷ z ∷ j ∷ []) (h, (k, (l, (m, (n, (o, tt))))))
-    (search reads depth 90) tt (search reads depth 90) tt
+-- what is added to the argument of latitude, from its sine u and its cosine w
+pub change_small : (k2 c u w : ℚ) → Inside (between (pos 0) 1 (pos 62) 100000) k2 → Inside turn c → Inside latitude u → Inside latitude w →
+    IsNear (ratio (pos 26) 10000) (neg_ℚ (decimal 25 2) *ℚ k2 *ℚ (whole 7 *ℚ c ^ℚ 2 -ℚ one_ℚ) *ℚ (whole 2 *ℚ u *ℚ w)) zero_ℚ
+change_small k2 c u w h i j l = record {
+  above = le_on (10 ^ 30) (between (pos 0) 1 (pos 62) 100000 ∷ turn ∷ latitude ∷ latitude ∷ []) (k2 ∷ c ∷ u ∷ w ∷ []) (h, (i, (j, (l, tt)))) (search reads depth 90) tt;
+  below = le_on (10 ^ 30) (between (pos 0) 1 (pos 62) 100000 ∷ turn ∷ latitude ∷ latitude ∷ []) (k2 ∷ c ∷ u ∷ w ∷ []) (h, (i, (j, (l, tt)))) (search reads depth 90) tt;
+}
 
 -- the distance: r before, the factors k1 and k2, the square root b, the cosine c of the inclination, and u as that sine
 pub corrected_above : (r k1 k2 b con41 c u : ℚ) → Inside distance r → Inside (between (pos 0) 1 (pos 58) 100000) k1 → Inside (between (pos 0) 1 (pos 62) 100000) k2 → Inside (between (pos 0) 1 (pos 105) 100) b →
     Inside (between (negsuc 1000) 1000 (pos 2001) 1000) con41 → Inside turn c → Inside latitude u →
-    ratio (pos 101) 100 ≤ℚ r *ℚ (one_ℚ -ℚ decimal 15 1 *ℚ k2 *ℚ b *ℚ con41) +ℚ decimal 5 1 *ℚ k1 *ℚ (one_ℚ -ℚ c ^ℚ 2) *ℚ (one_ℚ -ℚ whole 2 *ℚ u ^ℚ 2)
+    ratio (pos 1034) 1000 ≤ℚ r *ℚ (one_ℚ -ℚ decimal 15 1 *ℚ k2 *ℚ b *ℚ con41) +ℚ decimal 5 1 *ℚ k1 *ℚ (one_ℚ -ℚ c ^ℚ 2) *ℚ (one_ℚ -ℚ whole 2 *ℚ u ^ℚ 2)
 corrected_above r k1 k2 b con41 c u h i j l m n o =
     le_on (10 ^ 30)
     (distance ∷ between (pos 0) 1 (pos 58) 100000 ∷ between (pos 0) 1 (pos 62) 100000 ∷ between (pos 0) 1 (pos 105) 100 ∷ between (negsuc 1000) 1000 (pos 2001) 1000 ∷ turn ∷ latitude ∷ [])

@@ -9,7 +9,9 @@ use Rattle.exact.proofs.Strict.{Positive, le_quotient, lt_by, not_zero, positive
 use Rattle.elements.specs.Elements.{ElementsRecord, IsElements, record_of_elements}
 use Rattle.enc_plain.specs.declared.plain.Plain.{Plain}
 use Rattle.enc_plain.proofs.PlainHeld.{middle}
-use Rattle.kepler_enc.specs.Guess.{AreSized}
+use Rattle.sgp4_periodic.specs.Box.{IsInBox}
+use Rattle.sgp4_shape.specs.Expected.{IsInDragBox}
+use Rattle.orbit_sight.specs.TakenBoxes.{taken_drag, taken_position}
 use Rattle.sgp4_init.specs.ReachConsts.{reach_consts}
 use Rattle.sgp4_init.proofs.ConstantsExist.{constants_exist}
 use Rattle.sgp4_model.specs.Angle.{IsNear, IsPi, IsSinCos, Pair, least_pi, part}
@@ -31,9 +33,9 @@ use Rattle.sgp4_shape.specs.declared.consts.Consts.{Consts}
 use Rattle.orbit_sight.specs.Craft.{IsCraft, plain_covers, plain_extent}
 use Rattle.orbit_sight.specs.Moment.{units_from}
 use Rattle.orbit_sight.proofs.DayLemmas.{some_pi}
-use Rattle.orbit_sight.proofs.DistanceLemmas.{IsNearOrbit, distance_above, vector_within}
+use Rattle.orbit_sight.proofs.DistanceLemmas.{IsNearOrbit, distance_above, position_in_box}
 use Rattle.orbit_sight.proofs.MomentLemmas.{minutes_are}
-use Rattle.orbit_sight.proofs.OrbitLemmas.{axis_above, eccentricity_guarded, near_orbit, week_inside}
+use Rattle.orbit_sight.proofs.OrbitLemmas.{WeekInside, axis_above, bend_small, eccentricity_guarded, near_orbit, week_inside}
 
 -- ---- the eccentricity vector
 abbrev pub divisor : MeanRecord → ℚ
@@ -131,9 +133,6 @@ module _ (k : ConstRecord) (m : MeanRecord) (f pi : ℚ) (is_pi : IsPi pi) (orbi
         lt_by (m.am ∷ ax ∷ ay ∷ []) (positive_product axis_positive (positive_above (positive_known 8 10) (rest_above ax ay v.0 v.1))) (search reads depth 90) tt,
       )
 
-  pub sized : (q : PeriodicRecord) (root : ℚ) (r : Vector) → IsPositionUnguarded k m q pi root r → AreSized 113884775577132 q.ax q.ay
-  sized q root r p = le_trans (vector_within k m q f pi root r is_pi orbit p) (le_by [] (known 5824 2814749767106560000) (search reads depth 90) tt)
-
 -- ---- the solution, with what is known on the way
 pub record Solution (set : ElementsRecord) (at : ℤ) (consts : Consts Plain) : Type 0 where
   pub constants : ConstRecord
@@ -148,8 +147,9 @@ pub record Solution (set : ElementsRecord) (at : ℤ) (consts : Consts Plain) : 
   pub periodic : PeriodicRecord
   pub position : Vector
   pub position_is : IsPositionUnguarded constants mean periodic least_pi root position
-  pub far : ratio (pos 101) 100 ≤ℚ periodic.mrt
-  pub sized : AreSized 113884775577132 periodic.ax periodic.ay
+  pub drag_in_box : IsInDragBox constants taken_drag
+  pub far : ratio (pos 1034) 1000 ≤ℚ periodic.mrt
+  pub in_box : IsInBox periodic taken_position
 
 pub solution : (set : ElementsRecord) (at : ℤ) (consts : Consts Plain) → IsElements set → IsCraft set consts → (¬ IsAway (record_of_elements set) at) → Solution set at consts
 solution set at consts elements craft near =
@@ -179,5 +179,6 @@ solution set at consts elements craft near =
       position = placed.1.1.0;
       position_is = placed.1.1.1;
       far = distance_above k m placed.1.0 s.tempa least_pi placed.0 placed.1.1.0 some_pi orbit placed.1.1.1;
-      sized = sized k m s.tempa least_pi some_pi orbit axis placed.1.0 placed.0 placed.1.1.0 placed.1.1.1;
+      drag_in_box = λ _. bend_small (record_of_elements set) least_pi x k m s consts some_pi craft.near_earth constants.1 held week found.1.1;
+      in_box = position_in_box k m placed.1.0 s.tempa least_pi placed.0 placed.1.1.0 some_pi orbit placed.1.1.1;
     }

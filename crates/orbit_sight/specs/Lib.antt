@@ -1,4 +1,6 @@
+pub mod Box
 pub mod Cell
 pub mod Craft
 pub mod DayReach
 pub mod Moment
+pub mod TakenBoxes

@@ -58,7 +58,7 @@ impl Craft {
     pub fn bounds_at(&self, at: Instant) -> Option<Vec3<Iv>>
         ensures holds { IfSome result (λ v. (r : Vector) → IsPositionAt (record_of_elements self.now) (instant_of_nanos at) r → HoldsVector v r) }
         ensures bounded { IfSome result IsBoundedVector }
-        ensures narrow { IfSome result (λ v. (¬ IsAway (record_of_elements self.now) at) → IsNarrowVector 1410000000 v) }
+        ensures narrow { IfSome result (λ v. (¬ IsAway (record_of_elements self.now) at) → IsNarrowVector 439804651 v) }
         ensures exists { (¬ IsAway (record_of_elements self.now) at) → (r : Vector) × IsPositionAt (record_of_elements self.now) (instant_of_nanos at) r }
         ensures none { IfNone result (IsAway (record_of_elements self.now) at) }
     {

@@ -22,7 +22,7 @@ module _ (x : ℚ) where
   node_is a b c = ring (a ∷ b ∷ c ∷ x ∷ []) (search reads depth 90) tt
 
   pub correction_is : (w m n d c : ℚ) →
-      drag_correction exact (unit_minutes 1 *ℚ w) m n d c x ≡ w *ℚ t +ℚ m *ℚ ((one_ℚ +ℚ n *ℚ c) ^ℚ 3 -ℚ d)
+      drag_correction exact (unit_minutes 1 *ℚ w) m (m *ℚ n) n d c x ≡ w *ℚ t +ℚ m *ℚ ((one_ℚ +ℚ n *ℚ c) ^ℚ 3 -ℚ d)
   correction_is w m n d c = ring (w ∷ m ∷ n ∷ d ∷ c ∷ x ∷ []) (search reads depth 120) tt
 
   pub factor_is : (c1 d2 d3 d4 : ℚ) →

@@ -13,11 +13,12 @@ module _ (N : Arithmetic) where
   abbrev pub node : (start rate bend t t2 : Number) → Number
   node start rate bend t t2 = start + rate * t + bend * t2
 
-  -- the correction by drag: omgcof t + xmcof ((1 + eta cos M)^3 - delmo)
-  abbrev pub drag_correction : (omgcof xmcof eta delmo cosine t : Number) → Number
-  drag_correction omgcof xmcof eta delmo cosine t =
-      let base = whole 1 + eta * cosine in
-      omgcof * t + xmcof * (base * base * base - delmo)
+  -- the correction by drag: omgcof t + xmcof ((1 + eta cos M)^3 - delmo), where `bend` is xmcof eta: the cube less 1 is
+  -- eta times what stands behind `bend`
+  abbrev pub drag_correction : (omgcof xmcof bend eta delmo cosine t : Number) → Number
+  drag_correction omgcof xmcof bend eta delmo cosine t =
+      let wave = eta * cosine in
+      omgcof * t + bend * (cosine * (whole 3 + wave * (whole 3 + wave))) - xmcof * (delmo - whole 1)
 
   -- the drag factor: 1 - C1 t - D2 t^2 - D3 t^3 - D4 t^4
   abbrev pub drag_factor : (c1 d2 d3 d4 t t2 t3 t4 : Number) → Number

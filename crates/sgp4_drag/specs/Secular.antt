@@ -13,19 +13,25 @@ use Rattle.sgp4_model.specs.OrbitRecords.{ConstRecord, MeanRecord}
 use Rattle.sgp4_shape.specs.declared.consts.Consts.{Consts}
 use Rattle.sgp4_shape.specs.declared.mean.Mean.{Mean}
 use Rattle.sgp4_shape.specs.Covering.{CoversConsts, CoversMean, unit_minutes}
+use Rattle.sgp4_shape.specs.Expected.{DragBox, IsInDragBox, expected}
 use Rattle.sgp4_shape.specs.HeldConsts.{ConstReach, IsHeldConsts}
 use Rattle.sgp4_shape.specs.HeldMean.{IsHeldMean, MeanReach}
 use Rattle.sgp4_drag.specs.Guard.{IsInsideGuard}
 use Rattle.sgp4_drag.specs.Lines.{decayed, drag_correction, drag_factor, grown, longitude_gain, node, semimajor_axis}
 use Rattle.sgp4_drag.specs.Raised.{least_eccentricity}
 
-module _ (r : ConstReach) (t : Reach) where
-  -- the mean anomaly without drag, the correction by drag, and the mean anomaly with it
+module _ (r : ConstReach) (t : Reach) (b : DragBox) where
+  -- the mean anomaly without drag
   abbrev pub reach_mf : Reach
   reach_mf = grown numerals r.m0 r.mdot t
 
+  -- the drag term of the mean anomaly times eta
+  abbrev pub reach_bend : Reach
+  reach_bend = expected b.known (r.xmcof *ᴿ r.eta) b.bend
+
+  -- the correction by drag, and the mean anomaly with it
   abbrev pub reach_g : Reach
-  reach_g = drag_correction numerals r.omgcof r.xmcof r.eta r.delmo (turned reach_mf) t
+  reach_g = drag_correction numerals r.omgcof r.xmcof reach_bend r.eta r.delmo (turned reach_mf) t
 
   abbrev pub reach_mm : Reach
   reach_mm = reach_mf +ᴿ reach_g
@@ -58,9 +64,9 @@ module _ {A : Type 0} (E : Ghosts A) (consts : Consts A) (t : A) where
   -- numerals for them follow from those of the constants and of the time
   abbrev pub HoldsEachMean : Mean A → Type 0
   HoldsEachMean mean =
-      (h : Place) (pi x : ℚ) (k : ConstRecord) (m : MeanRecord) (r : ConstReach) (n : Reach) →
-      IsHeldConsts E.covers E.extent E.tells consts h k r → Encloses E t h x n → IsPi pi →
-      IsMean k pi (unit_minutes 1 *ℚ x) m → IsHeldMean E.covers E.extent E.tells mean h m (reach_mean r n)
+      (h : Place) (pi x : ℚ) (k : ConstRecord) (m : MeanRecord) (r : ConstReach) (n : Reach) (b : DragBox) →
+      IsHeldConsts E.covers E.extent E.tells consts h k r → Encloses E t h x n → IsInDragBox k b → IsPi pi →
+      IsMean k pi (unit_minutes 1 *ℚ x) m → IsHeldMean E.covers E.extent E.tells mean h m (reach_mean r n b)
 
   -- there are mean elements, of all constants and times that are covered
   abbrev pub EachMeanExists : Type 0
@@ -71,7 +77,7 @@ module _ {A : Type 0} (E : Ghosts A) (consts : Consts A) (t : A) where
 -- some enclosure of the eccentricity before it is raised, as narrow as its equations give, is not inside the guard
 pub record IsOutOfGuard {A : Type 0} (covers : A → Place → ℚ → Type 0) (extent : A → Extent) (told : Bool) (consts : Consts A) (t : A) : Type 0 where
   pub ecc : A
-  pub held : (h : Place) (pi x : ℚ) (k : ConstRecord) (s : SecularRecord) (m : MeanRecord) (r : ConstReach) (n : Reach) → IsPi pi →
-      IsHeldConsts covers extent told consts h k r → IsHeld covers extent told t h x n →
-      IsMeanUnguarded k (unit_minutes 1 *ℚ x) s pi m → IsHeld covers extent told ecc h s.ecc (reach_ecc r n)
+  pub held : (h : Place) (pi x : ℚ) (k : ConstRecord) (s : SecularRecord) (m : MeanRecord) (r : ConstReach) (n : Reach) (b : DragBox) →
+      IsPi pi → IsHeldConsts covers extent told consts h k r → IsHeld covers extent told t h x n → IsInDragBox k b →
+      IsMeanUnguarded k (unit_minutes 1 *ℚ x) s pi m → IsHeld covers extent told ecc h s.ecc (reach_ecc r n b)
   pub outside : ¬ IsInsideGuard (extent ecc).ends

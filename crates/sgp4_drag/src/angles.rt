@@ -1,5 +1,5 @@
 //! The secular angles.
-ghost use Rattle.fixed_iv.specs.Follows.{Follows3, Follows5, Follows6};
+ghost use Rattle.fixed_iv.specs.Follows.{Follows3, Follows5, Follows7};
 ghost use Rattle.sgp4_drag.specs.Lines.{drag_correction, grown, node};
 
 use fixed_iv::{Enc, Iv};
@@ -18,12 +18,25 @@ pub(crate) fn node<E: Enc>(start: E, rate: E, bend: E, t: E, t2: E) -> E
     start.plus(rate.times(t)).plus(bend.times(t2))
 }
 
-/// What drag adds to the mean anomaly and takes from the argument of perigee, from the cosine of the mean anomaly.
-pub(crate) fn drag_correction<E: Enc>(omgcof: E, xmcof: E, eta: E, delmo: E, cosine: E, t: E) -> E
-    ensures { Follows6 E.Enc result drag_correction omgcof xmcof eta delmo cosine t }
+/// What drag adds to the mean anomaly and takes from the argument of perigee, from the cosine of the mean anomaly. `bend`
+/// covers the product of `xmcof` and `eta`. The cube of 1 + eta cos M less 1 is eta times the last factor of `turning`; so
+/// only that small product meets the cosine.
+pub(crate) fn drag_correction<E: Enc>(
+    omgcof: E,
+    xmcof: E,
+    bend: E,
+    eta: E,
+    delmo: E,
+    cosine: E,
+    t: E,
+) -> E
+    ensures { Follows7 E.Enc result drag_correction omgcof xmcof bend eta delmo cosine t }
 {
     let one = E::constant(Iv::from_ratio(1, 1));
-    let base = one.plus(eta.times(cosine));
-    let cube = base.times(base).times(base);
-    omgcof.times(t).plus(xmcof.times(cube.minus(delmo)))
+    let three = E::constant(Iv::from_ratio(3, 1));
+    let wave = eta.times(cosine);
+    let inner = wave.times(three.plus(wave));
+    let turning = cosine.times(three.plus(inner));
+    let epoch = xmcof.times(delmo.minus(one));
+    omgcof.times(t).plus(bend.times(turning)).minus(epoch)
 }

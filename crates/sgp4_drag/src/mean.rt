@@ -19,7 +19,8 @@ pub fn secular<E: Enc>(consts: &Consts<E>, t: E) -> Option<Mean<E>>
     let k = consts;
     let mf = grown(k.m0, k.mdot, t);
     let (_, cosine) = mf.sincos();
-    let g = drag_correction(k.omgcof, k.xmcof, k.eta, k.delmo, cosine, t);
+    let bend = k.xmcof.times(k.eta);
+    let g = drag_correction(k.omgcof, k.xmcof, bend, k.eta, k.delmo, cosine, t);
     let mm = mf.plus(g);
     let (sine, _) = mm.sincos();
     let ecc = decayed(k.e, k.bstar, k.c4, k.c5, k.sin_m0, sine, t);

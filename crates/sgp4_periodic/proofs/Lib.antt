@@ -1,4 +1,5 @@
 mod EquationLemmas
 mod ExistLemmas
 mod GuardLemmas
+pub mod PairLemmas
 pub mod PlaceLemmas

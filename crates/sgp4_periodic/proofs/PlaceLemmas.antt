@@ -11,6 +11,8 @@ use Rattle.sgp4_model.specs.Vector.{Vector}
 use Rattle.sgp4_shape.specs.declared.mean.Mean.{Mean}
 use Rattle.sgp4_shape.specs.Covering.{CoversMean}
 use Rattle.sgp4_shape.specs.HeldMean.{IsHeldMean, MeanReach}
+use Rattle.sgp4_shape.proofs.ExpectedHeld.{no_range}
+use Rattle.sgp4_periodic.specs.Box.{PositionBox}
 use Rattle.sgp4_periodic.specs.Ellipse.{IsEllipse}
 
 pub ellipse_of_position : {k : ConstRecord} {m : MeanRecord} {q : PeriodicRecord} {pi root : ℚ} {v : Vector} → IsPositionUnguarded k m q pi root v → IsEllipse k m q pi
@@ -30,6 +32,10 @@ no_numerals = record { am = nothing; em = nothing; ml = nothing; wm = nothing; o
 
 pub covered_mean : {A : Type 0} (covers : A → Place → ℚ → Type 0) (extent : A → Extent) (told : Bool) (mean : Mean A) (h : Place) (m : MeanRecord) → CoversMean covers mean h m → IsHeldMean covers extent told mean h m no_numerals
 covered_mean covers extent told mean h m c = record { am = covered c.am; em = covered c.em; ml = covered c.ml; wm = covered c.wm; om = covered c.om }
+
+-- a box in which nothing is known
+abbrev pub no_box : PositionBox
+no_box = record { known = false; vector = 0; inner = no_range; latitude = no_range; change = no_range }
 
 pub untrue : {b : Bool} → b ≡ false → IsTrue b → ⊥
 untrue e t = grind (arith, e, t)

@@ -6,10 +6,13 @@ use Rattle.fixed_iv.specs.Place.{Place}
 use Rattle.fixed_iv.specs.Reach.{Reach, IsHeld, ◌+ᴿ◌, ◌-ᴿ◌, ◌*ᴿ◌, ◌/ᴿ◌, turned}
 use Rattle.fixed_iv.specs.ReachRoots.{rooted}
 use Rattle.sgp4_model.specs.Position.{PeriodicRecord}
+use Rattle.sgp4_shape.specs.Expected.{expected}
 use Rattle.sgp4_shape.specs.HeldConsts.{ConstReach}
 use Rattle.sgp4_shape.specs.HeldMean.{MeanReach}
+use Rattle.sgp4_periodic.specs.Box.{PositionBox}
 use Rattle.sgp4_periodic.specs.Ellipse.{EllipseReach}
 use Rattle.sgp4_periodic.specs.Numerals.{a_half, exactly_one, half_of_j2, less_a_quarter, seven, three_halves}
+use Rattle.sgp4_periodic.specs.Pairs.{inner_of, outer_of}
 use Rattle.sgp4_periodic.specs.declared.corrected.Corrected.{Corrected}
 
 -- numerals for distance and angles
@@ -30,10 +33,10 @@ pub record IsHeldCorrected {A : Type 0} (covers : A → Place → ℚ → Type 0
   pub xnode : IsHeld covers extent told at.xnode h q.xnode r.xnode
   pub xinc : IsHeld covers extent told at.xinc h q.xinc r.xinc
 
-module _ (r : ConstReach) (n : MeanReach) (e : EllipseReach) (root : Reach) where
+module _ (r : ConstReach) (n : MeanReach) (e : EllipseReach) (root : Reach) (b : PositionBox) where
   -- the distance over the semimajor axis
   abbrev pub reach_near : Reach
-  reach_near = exactly_one -ᴿ (e.ax *ᴿ turned root +ᴿ e.ay *ᴿ turned root)
+  reach_near = exactly_one -ᴿ expected b.known (inner_of b.known b.vector e.ax e.ay (turned root) (turned root)) b.inner
 
   -- the root of what the square of the eccentricity vector leaves of 1
   abbrev pub reach_b : Reach
@@ -41,15 +44,15 @@ module _ (r : ConstReach) (n : MeanReach) (e : EllipseReach) (root : Reach) wher
 
   -- es / (1 + b)
   abbrev pub reach_f : Reach
-  reach_f = (e.ax *ᴿ turned root -ᴿ e.ay *ᴿ turned root) /ᴿ (exactly_one +ᴿ reach_b)
+  reach_f = outer_of b.known b.vector e.ax e.ay (turned root) (turned root) /ᴿ (exactly_one +ᴿ reach_b)
 
   -- the sine of the argument of latitude
   abbrev pub reach_su : Reach
-  reach_su = (turned root -ᴿ e.ay -ᴿ e.ax *ᴿ reach_f) /ᴿ reach_near
+  reach_su = expected b.known ((turned root -ᴿ e.ay -ᴿ e.ax *ᴿ reach_f) /ᴿ reach_near) b.latitude
 
   -- its cosine
   abbrev pub reach_cu : Reach
-  reach_cu = (turned root -ᴿ e.ax +ᴿ e.ay *ᴿ reach_f) /ᴿ reach_near
+  reach_cu = expected b.known ((turned root -ᴿ e.ax +ᴿ e.ay *ᴿ reach_f) /ᴿ reach_near) b.latitude
 
   -- the sine of twice the argument of latitude
   abbrev pub reach_s2 : Reach

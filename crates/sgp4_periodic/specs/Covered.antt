@@ -1,12 +1,15 @@
 -- What an enclosed position covers, and its numerals.
-use Rattle.std.specs.Prelude.{Bool}
+use Rattle.std.specs.Prelude.{Bool, true}
 use Rattle.exact.specs.Rational.{ℚ}
 use Rattle.fixed_iv.specs.Extent.{Extent}
 use Rattle.fixed_iv.specs.Place.{Place}
 use Rattle.fixed_iv.specs.Reach.{Reach, IsHeld, ◌+ᴿ◌, ◌-ᴿ◌, ◌*ᴿ◌, turned}
 use Rattle.fixed_iv.specs.declared.vec3.Vec3.{Vec3}
 use Rattle.sgp4_model.specs.Vector.{Vector}
+use Rattle.sgp4_shape.specs.Expected.{expected}
+use Rattle.sgp4_periodic.specs.Box.{PositionBox}
 use Rattle.sgp4_periodic.specs.Corrected.{CorrectedReach}
+use Rattle.sgp4_periodic.specs.Pairs.{inner_of, most_pair, outer_of}
 
 -- each coordinate is covered at the place
 pub record CoversPosition {A : Type 0} (covers : A → Place → ℚ → Type 0) (position : Vec3 A) (h : Place) (v : Vector) : Type 0 where
@@ -26,14 +29,18 @@ pub record IsHeldPosition {A : Type 0} (covers : A → Place → ℚ → Type 0)
   pub y : IsHeld covers extent told position.y h v.y r.y
   pub z : IsHeld covers extent told position.z h v.z r.z
 
-module _ (r : CorrectedReach) where
+module _ (r : CorrectedReach) (b : PositionBox) where
+  -- the sine of the change of the argument of latitude
+  abbrev pub reach_sine : Reach
+  reach_sine = expected b.known (turned r.du) b.change
+
   -- the sine of the corrected argument of latitude
   abbrev pub reach_sw : Reach
-  reach_sw = r.su *ᴿ turned r.du +ᴿ r.cu *ᴿ turned r.du
+  reach_sw = r.su *ᴿ turned r.du +ᴿ r.cu *ᴿ reach_sine
 
   -- its cosine
   abbrev pub reach_cw : Reach
-  reach_cw = r.cu *ᴿ turned r.du -ᴿ r.su *ᴿ turned r.du
+  reach_cw = r.cu *ᴿ turned r.du -ᴿ r.su *ᴿ reach_sine
 
   -- the cosine of the inclination times the sine of the corrected argument of latitude
   abbrev pub reach_tilted : Reach
@@ -42,7 +49,7 @@ module _ (r : CorrectedReach) where
   -- the position at the corrected distance and angles
   abbrev pub reach_position : PositionReach
   reach_position = record {
-    x = r.mrt *ᴿ (turned r.xnode *ᴿ reach_cw -ᴿ turned r.xnode *ᴿ reach_tilted);
-    y = r.mrt *ᴿ (turned r.xnode *ᴿ reach_tilted +ᴿ turned r.xnode *ᴿ reach_cw);
+    x = r.mrt *ᴿ outer_of true most_pair (turned r.xnode) (turned r.xnode) reach_cw reach_tilted;
+    y = r.mrt *ᴿ inner_of true most_pair (turned r.xnode) (turned r.xnode) reach_tilted reach_cw;
     z = r.mrt *ᴿ turned r.xinc *ᴿ reach_sw;
   }

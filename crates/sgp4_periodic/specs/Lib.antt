@@ -1,7 +1,9 @@
+pub mod Box
 pub mod Corrected
 pub mod Covered
 pub mod Ellipse
 pub mod Guards
 pub mod Numerals
+pub mod Pairs
 pub mod Placed
 pub mod Unplaced

@@ -1,20 +1,20 @@
 -- What numerals say of the position, from those of the constants and of the mean elements.
-use Rattle.std.specs.Prelude.{ℕ}
 use Rattle.kepler_enc.specs.Spread.{reach_root}
 use Rattle.sgp4_shape.specs.HeldConsts.{ConstReach}
 use Rattle.sgp4_shape.specs.HeldMean.{MeanReach}
+use Rattle.sgp4_periodic.specs.Box.{PositionBox}
 use Rattle.sgp4_periodic.specs.Corrected.{CorrectedReach, reach_corrected}
 use Rattle.sgp4_periodic.specs.Covered.{PositionReach, reach_position}
 use Rattle.sgp4_periodic.specs.Ellipse.{reach_ellipse}
 
--- the sizes of the components of the eccentricity vector add up to so many units of 2^-48 at most
-module _ (r : ConstReach) (n : MeanReach) (sum : ℕ) where
+-- of a position whose exact quantities lie in a box
+module _ (r : ConstReach) (n : MeanReach) (b : PositionBox) where
   -- the corrected distance and angles at Kepler's roots
   abbrev pub reach_at : CorrectedReach
   reach_at =
       let ellipse = reach_ellipse r n in
-      reach_corrected r n ellipse (reach_root ellipse.u ellipse.ax ellipse.ay sum)
+      reach_corrected r n ellipse (reach_root ellipse.u ellipse.ax ellipse.ay b.vector) b
 
   -- the position
   abbrev pub reach_place : PositionReach
-  reach_place = reach_position reach_at
+  reach_place = reach_position reach_at b

@@ -1,11 +1,10 @@
 -- When there is no position.
-use Rattle.std.specs.Prelude.{◌⊎◌, ℕ, Bool}
+use Rattle.std.specs.Prelude.{◌⊎◌, Bool}
 use Rattle.exact.specs.Rational.{ℚ}
 use Rattle.fixed_iv.specs.Extent.{Extent}
 use Rattle.fixed_iv.specs.Place.{Place}
 use Rattle.fixed_iv.specs.Reach.{IsHeld}
 use Rattle.kepler_enc.specs.Guard.{IsUnguarded}
-use Rattle.kepler_enc.specs.Guess.{AreSized}
 use Rattle.sgp4_model.specs.Angle.{IsPi}
 use Rattle.sgp4_model.specs.OrbitRecords.{ConstRecord, MeanRecord}
 use Rattle.sgp4_model.specs.Position.{IsPositionUnguarded, PeriodicRecord}
@@ -14,6 +13,7 @@ use Rattle.sgp4_shape.specs.declared.consts.Consts.{Consts}
 use Rattle.sgp4_shape.specs.declared.mean.Mean.{Mean}
 use Rattle.sgp4_shape.specs.HeldConsts.{ConstReach, IsHeldConsts}
 use Rattle.sgp4_shape.specs.HeldMean.{IsHeldMean, MeanReach}
+use Rattle.sgp4_periodic.specs.Box.{IsInBox, PositionBox}
 use Rattle.sgp4_periodic.specs.Placed.{reach_at}
 use Rattle.sgp4_periodic.specs.Ellipse.{IsEllipse, IsHeldEllipse, reach_ellipse}
 use Rattle.sgp4_periodic.specs.Guards.{AreAtLeast1, LieAbove0}
@@ -32,9 +32,9 @@ module _ {A : Type 0} (covers : A → Place → ℚ → Type 0) (extent : A → 
   -- some enclosure of the distance, as narrow as its equations give, has bounds that are not at least 1
   pub record IsLow : Type 0 where
     pub mrt : A
-    pub held : (h : Place) (pi root : ℚ) (k : ConstRecord) (m : MeanRecord) (q : PeriodicRecord) (v : Vector) (r : ConstReach) (n : MeanReach) (sum : ℕ) → IsPi pi →
+    pub held : (h : Place) (pi root : ℚ) (k : ConstRecord) (m : MeanRecord) (q : PeriodicRecord) (v : Vector) (r : ConstReach) (n : MeanReach) (b : PositionBox) → IsPi pi →
         IsHeldConsts covers extent told consts h k r → IsHeldMean covers extent told mean h m n →
-        IsPositionUnguarded k m q pi root v → AreSized sum q.ax q.ay → IsHeld covers extent told mrt h q.mrt (reach_at r n sum).mrt
+        IsPositionUnguarded k m q pi root v → IsInBox q b → IsHeld covers extent told mrt h q.mrt (reach_at r n b).mrt
     pub low : ¬ AreAtLeast1 (extent mrt).ends
 
   -- bounds do not meet the guards of the position

@@ -1,23 +1,25 @@
 //! The argument of latitude before its correction, from the pair of the eccentric longitude.
-ghost use Rattle.std.specs.Prelude.{◌≡◌};
+ghost use Rattle.std.specs.Prelude.{◌≡◌, Bool, ℕ, T};
 ghost use Rattle.exact.specs.Rational.{ℚ, ◌+ℚ◌, ◌-ℚ◌, ◌*ℚ◌, ◌/ℚ◌, one_ℚ, zero_ℚ};
 ghost use Rattle.fixed_iv.specs.Place.{Place};
 ghost use Rattle.fixed_iv.specs.Reach.{Reach, IsHeld, ◌+ᴿ◌, ◌-ᴿ◌, ◌*ᴿ◌, ◌/ᴿ◌};
+ghost use Rattle.kepler_enc.specs.Guess.{AreSized};
 ghost use Rattle.sgp4_periodic.specs.Numerals.{exactly_one};
+ghost use Rattle.sgp4_periodic.specs.Pairs.{inner_of, outer_of};
 
 use crate::numerals::one;
 use fixed_iv::Enc;
 
 /// The eccentricity times the cosine of the eccentric anomaly.
 pub(crate) fn cosine_part<E: Enc>(ax: E, ay: E, sine: E, cosine: E) -> E
-    ensures { (h : Place) (x_ax x_ay x_sine x_cosine : ℚ) (r_ax r_ay r_sine r_cosine : Reach) → IsHeld E.covers E.extent E.tells ax h x_ax r_ax → IsHeld E.covers E.extent E.tells ay h x_ay r_ay → IsHeld E.covers E.extent E.tells sine h x_sine r_sine → IsHeld E.covers E.extent E.tells cosine h x_cosine r_cosine → IsHeld E.covers E.extent E.tells result h (x_ax *ℚ x_cosine +ℚ x_ay *ℚ x_sine) (r_ax *ᴿ r_cosine +ᴿ r_ay *ᴿ r_sine) }
+    ensures { (h : Place) (x_ax x_ay x_sine x_cosine : ℚ) (r_ax r_ay r_sine r_cosine : Reach) (known : Bool) (sum : ℕ) → (T known → AreSized sum x_ax x_ay) → IsHeld E.covers E.extent E.tells ax h x_ax r_ax → IsHeld E.covers E.extent E.tells ay h x_ay r_ay → IsHeld E.covers E.extent E.tells sine h x_sine r_sine → IsHeld E.covers E.extent E.tells cosine h x_cosine r_cosine → IsHeld E.covers E.extent E.tells result h (x_ax *ℚ x_cosine +ℚ x_ay *ℚ x_sine) (inner_of known sum r_ax r_ay r_cosine r_sine) }
 {
     ax.times(cosine).plus(ay.times(sine))
 }
 
 /// The eccentricity times the sine of the eccentric anomaly.
 pub(crate) fn sine_part<E: Enc>(ax: E, ay: E, sine: E, cosine: E) -> E
-    ensures { (h : Place) (x_ax x_ay x_sine x_cosine : ℚ) (r_ax r_ay r_sine r_cosine : Reach) → IsHeld E.covers E.extent E.tells ax h x_ax r_ax → IsHeld E.covers E.extent E.tells ay h x_ay r_ay → IsHeld E.covers E.extent E.tells sine h x_sine r_sine → IsHeld E.covers E.extent E.tells cosine h x_cosine r_cosine → IsHeld E.covers E.extent E.tells result h (x_ax *ℚ x_sine -ℚ x_ay *ℚ x_cosine) (r_ax *ᴿ r_sine -ᴿ r_ay *ᴿ r_cosine) }
+    ensures { (h : Place) (x_ax x_ay x_sine x_cosine : ℚ) (r_ax r_ay r_sine r_cosine : Reach) (known : Bool) (sum : ℕ) → (T known → AreSized sum x_ax x_ay) → IsHeld E.covers E.extent E.tells ax h x_ax r_ax → IsHeld E.covers E.extent E.tells ay h x_ay r_ay → IsHeld E.covers E.extent E.tells sine h x_sine r_sine → IsHeld E.covers E.extent E.tells cosine h x_cosine r_cosine → IsHeld E.covers E.extent E.tells result h (x_ax *ℚ x_sine -ℚ x_ay *ℚ x_cosine) (outer_of known sum r_ax r_ay r_sine r_cosine) }
 {
     ax.times(sine).minus(ay.times(cosine))
 }

@@ -1,8 +1,7 @@
 //! The position at a time.
-ghost use Rattle.std.specs.Prelude.{ℕ, IfNone, IfSome};
+ghost use Rattle.std.specs.Prelude.{IfNone, IfSome};
 ghost use Rattle.exact.specs.Rational.{ℚ, ◌-ℚ◌, ◌*ℚ◌, ◌^ℚ◌, one_ℚ};
 ghost use Rattle.fixed_iv.specs.Place.{Place};
-ghost use Rattle.kepler_enc.specs.Guess.{AreSized};
 ghost use Rattle.sgp4_model.specs.Angle.{IsPi};
 ghost use Rattle.sgp4_model.specs.Numerals.{IsDivisor};
 ghost use Rattle.sgp4_model.specs.OrbitRecords.{ConstRecord, MeanRecord};
@@ -11,6 +10,7 @@ ghost use Rattle.sgp4_model.specs.Vector.{Vector};
 ghost use Rattle.sgp4_shape.specs.Covering.{CoversConsts, CoversMean};
 ghost use Rattle.sgp4_shape.specs.HeldConsts.{ConstReach, IsHeldConsts};
 ghost use Rattle.sgp4_shape.specs.HeldMean.{IsHeldMean, MeanReach};
+ghost use Rattle.sgp4_periodic.specs.Box.{IsInBox, PositionBox};
 ghost use Rattle.sgp4_periodic.specs.Covered.{CoversPosition, IsHeldPosition};
 ghost use Rattle.sgp4_periodic.specs.Placed.{reach_place};
 ghost use Rattle.sgp4_periodic.specs.Unplaced.{IsUnplaced};
@@ -28,7 +28,7 @@ use sgp4_shape::{Consts, Mean};
 /// distance are not at least 1.
 pub fn place<E: Enc>(consts: &Consts<E>, mean: &Mean<E>) -> Option<Vec3<E>>
     ensures covers { IfSome result (λ position. (h : Place) (pi root : ℚ) (k : ConstRecord) (m : MeanRecord) (v : Vector) → IsPi pi → CoversConsts E.covers consts.now k → CoversMean E.covers mean.now h m → IsPosition k m pi root v → CoversPosition E.covers position h v) }
-    ensures held { IfSome result (λ position. (h : Place) (pi root : ℚ) (k : ConstRecord) (m : MeanRecord) (v : Vector) (r : ConstReach) (n : MeanReach) (sum : ℕ) → IsPi pi → IsHeldConsts E.covers E.extent E.tells consts.now h k r → IsHeldMean E.covers E.extent E.tells mean.now h m n → (p : IsPosition k m pi root v) → AreSized sum p.periodic.ax p.periodic.ay → IsHeldPosition E.covers E.extent E.tells position h v (reach_place r n sum)) }
+    ensures held { IfSome result (λ position. (h : Place) (pi root : ℚ) (k : ConstRecord) (m : MeanRecord) (v : Vector) (r : ConstReach) (n : MeanReach) (b : PositionBox) → IsPi pi → IsHeldConsts E.covers E.extent E.tells consts.now h k r → IsHeldMean E.covers E.extent E.tells mean.now h m n → (p : IsPosition k m pi root v) → IsInBox p.periodic b → IsHeldPosition E.covers E.extent E.tells position h v (reach_place r n b)) }
     ensures exists { IfSome result (λ _. (h : Place) (pi : ℚ) (k : ConstRecord) (m : MeanRecord) → IsPi pi → CoversConsts E.covers consts.now k → CoversMean E.covers mean.now h m → IsDivisor (m.am *ℚ (one_ℚ -ℚ m.em ^ℚ 2)) → (root : ℚ) × ((v : Vector) × IsPosition k m pi root v)) }
     ensures none { IfNone result (IsUnplaced E.covers E.extent E.tells consts.now mean.now) }
 {

@@ -1,1 +1,2 @@
 pub mod CoveredConsts
+pub mod ExpectedHeld

@@ -4,6 +4,7 @@ use Rattle.fixed_iv.specs.Reach.{nothing}
 use Rattle.fixed_iv.proofs.Held.{covered, held_at}
 use Rattle.fixed_iv.proofs.Promises.{difference, product, sum}
 use Rattle.sgp4_shape.proofs.CoveredConsts.{covered_consts}
+use Rattle.sgp4_shape.proofs.ExpectedHeld.{no_drag_box}
 use Rattle.sgp4_model.proofs.MeanExists.{mean_elements_exist}
 use Rattle.sgp4_shape.specs.Covering.{unit_minutes}
 use Rattle.sgp4_drag.proofs.AnomalyLemmas.{begun}
@@ -14,20 +15,20 @@ use Rattle.sgp4_drag.proofs.mean.secular.Goals as goal
 pub returns-then-not-is_guarded-clause-none : goal.returns-then-not-is_guarded-clause-none
 returns-then-not-is_guarded-clause-none g c = record {
   ecc = c.decayed-ecc.result;
-  held = λ h pi x k s m r n is_pi held t mean.
-      (begun g.met.E.Enc.contained c.grown-mf.ensures c.sincos-cosine.ensures c.drag_correction-g.ensures c.plus-mm.ensures c.sincos-sine.ensures c.decayed-ecc.ensures is_pi held t mean).ecc;
+  held = λ h pi x k s m r n b is_pi held t small mean.
+      (begun g.met.E.Enc.contained c.grown-mf.ensures c.sincos-cosine.ensures c.times-bend.ensures c.drag_correction-g.ensures c.plus-mm.ensures c.sincos-sine.ensures c.decayed-ecc.ensures b is_pi held t small mean).ecc;
   outside = λ inside. untrue c.if-not-is_guarded.true (c.is_guarded.ensures.1 (rw c.bounds.ensures inside));
 }
 
 pub returns-clause-held : goal.returns-clause-held
-returns-clause-held g c h pi x k m r n held t is_pi guarded =
+returns-clause-held g c h pi x k m r n b held t small is_pi guarded =
     let law = g.met.E.Enc.contained in
     let s = guarded.secular in
     let mean = guarded.unguarded in
     let angles = mean.angles in
     let factors = mean.factors in
     let elements = mean.elements in
-    let start = begun law c.grown-mf.ensures c.sincos-cosine.ensures c.drag_correction-g.ensures c.plus-mm.ensures c.sincos-sine.ensures c.decayed-ecc.ensures is_pi held t mean in
+    let start = begun law c.grown-mf.ensures c.sincos-cosine.ensures c.times-bend.ensures c.drag_correction-g.ensures c.plus-mm.ensures c.sincos-sine.ensures c.decayed-ecc.ensures b is_pi held t small mean in
     let t2 = product law c.times-t2.ensures t t in
     let t3 = product law c.times-t3.ensures t2 t in
     let t4 = product law c.times-t4.ensures t2 t2 in
@@ -45,7 +46,7 @@ returns-clause-held g c h pi x k m r n held t is_pi guarded =
 
 pub returns-clause-covers : goal.returns-clause-covers
 returns-clause-covers g c h pi x k m consts t is_pi mean =
-    let held = returns-clause-held g c h pi x k m _ nothing (covered_consts _ _ _ _ _ consts h) (covered t) is_pi mean in
+    let held = returns-clause-held g c h pi x k m _ nothing no_drag_box (covered_consts _ _ _ _ _ consts h) (covered t) (λ u. absurd u) is_pi mean in
     record { am = held.am.covers; em = held.em.covers; ml = held.ml.covers; wm = held.wm.covers; om = held.om.covers }
 
 pub returns-clause-exists : goal.returns-clause-exists
@@ -55,6 +56,6 @@ returns-clause-exists g c h pi x k consts t is_pi =
     let s = found.0 in
     let mean = found.1.1 in
     let held = covered_consts _ _ g.E.Enc.tells _ k consts h in
-    let start = begun law c.grown-mf.ensures c.sincos-cosine.ensures c.drag_correction-g.ensures c.plus-mm.ensures c.sincos-sine.ensures c.decayed-ecc.ensures is_pi held (covered t) mean in
+    let start = begun law c.grown-mf.ensures c.sincos-cosine.ensures c.times-bend.ensures c.drag_correction-g.ensures c.plus-mm.ensures c.sincos-sine.ensures c.decayed-ecc.ensures no_drag_box is_pi held (covered t) (λ u. absurd u) mean in
     let inside = rw c.bounds.ensures at (c.is_guarded.ensures.0 (grind (arith, c.if-not-is_guarded.false))) in
     (found.1.0, record { secular = s; unguarded = mean; guarded = held_guarded _ s.ecc inside (law _ h s.ecc start.ecc.covers) })

@@ -1,10 +1,11 @@
-use Rattle.fixed_iv.proofs.Held.{plus_held, times_held}
+use Rattle.std.proofs.Common.{true}
+use Rattle.fixed_iv.proofs.Held.{times_held}
+use Rattle.sgp4_periodic.specs.Pairs.{most_pair}
+use Rattle.sgp4_periodic.proofs.PairLemmas.{inner_held}
 use Rattle.sgp4_periodic.proofs.frame.second_coordinate.Goals as goal
 
 pub returns : goal.returns
-returns g c h _ _ _ _ _ _ _ _ _ _ mrt sine cosine tilted cw =
+returns g c h _ _ _ _ _ _ _ _ _ _ sized mrt sine cosine tilted cw =
     let law = g.met.E.Enc.contained in
-    let times_1 = times_held law c.times.ensures.covers c.times.ensures.narrow cosine tilted in
-    let times_2 = times_held law c.times-2.ensures.covers c.times-2.ensures.narrow sine cw in
-    let plus_1 = plus_held law c.plus.ensures.covers c.plus.ensures.narrow times_1 times_2 in
-    times_held law c.times-3.ensures.covers c.times-3.ensures.narrow mrt plus_1
+    let along = inner_held law true most_pair (λ _. sized) c.times.ensures.covers c.times.ensures.narrow c.times-2.ensures.covers c.times-2.ensures.narrow cosine sine tilted cw c.plus.ensures.covers c.plus.ensures.narrow in
+    times_held law c.times-3.ensures.covers c.times-3.ensures.narrow mrt along

@@ -1,9 +1,6 @@
-use Rattle.fixed_iv.proofs.Held.{plus_held, times_held}
+use Rattle.sgp4_periodic.proofs.PairLemmas.{inner_held}
 use Rattle.sgp4_periodic.proofs.latitude.cosine_part.Goals as goal
 
 pub returns : goal.returns
-returns g c h _ _ _ _ _ _ _ _ ax ay sine cosine =
-    let law = g.met.E.Enc.contained in
-    let times_1 = times_held law c.times.ensures.covers c.times.ensures.narrow ax cosine in
-    let times_2 = times_held law c.times-2.ensures.covers c.times-2.ensures.narrow ay sine in
-    plus_held law c.plus.ensures.covers c.plus.ensures.narrow times_1 times_2
+returns g c h _ _ _ _ _ _ _ _ known sum sized ax ay sine cosine =
+    inner_held g.met.E.Enc.contained known sum sized c.times.ensures.covers c.times.ensures.narrow c.times-2.ensures.covers c.times-2.ensures.narrow ax ay cosine sine c.plus.ensures.covers c.plus.ensures.narrow

@@ -3,7 +3,7 @@ use Rattle.fixed_iv.proofs.Held.{covered}
 use Rattle.sgp4_shape.proofs.CoveredConsts.{covered_consts}
 use Rattle.sgp4_model.proofs.PositionExists.{position_exists}
 use Rattle.sgp4_periodic.proofs.ExistLemmas.{before_root, distance_guarded, is_ellipse, rectum_positive, vector_short}
-use Rattle.sgp4_periodic.proofs.PlaceLemmas.{covered_mean, ellipse_of_position, untrue}
+use Rattle.sgp4_periodic.proofs.PlaceLemmas.{covered_mean, ellipse_of_position, no_box, untrue}
 use Rattle.sgp4_periodic.proofs.teme.place.Goals as goal
 
 pub returns-in_err-root-clause-none : goal.returns-in_err-root-clause-none
@@ -24,29 +24,29 @@ returns-then-not-lie_above_0-clause-none g c = inl (record {
 pub returns-then-not-are_at_least_1-clause-none : goal.returns-then-not-are_at_least_1-clause-none
 returns-then-not-are_at_least_1-clause-none g c = inr (record {
   mrt = c.corrected_at-at.result.mrt;
-  held = λ h pi angle k m q v r n sum is_pi consts mean p sized.
+  held = λ h pi angle k m q v r n b is_pi consts mean p in_box.
       let ellipse = c.ellipse_of-ellipse.ensures h pi k m q r n is_pi consts mean (ellipse_of_position p) in
-      let root = c.in_ok-root.ensures.held h pi _ _ _ angle _ _ _ sum is_pi ellipse.u ellipse.ax ellipse.ay sized (record { turn = _; solves = p.kepler }) in
-      let at = c.corrected_at-at.ensures h pi angle k m q v _ _ _ _ is_pi consts mean ellipse root p in
+      let root = c.in_ok-root.ensures.held h pi _ _ _ angle _ _ _ b.vector is_pi ellipse.u ellipse.ax ellipse.ay in_box.vector (record { turn = _; solves = p.kepler }) in
+      let at = c.corrected_at-at.ensures h pi angle k m q v _ _ _ _ b is_pi consts mean ellipse root p (λ _. in_box) in
       at.mrt;
   low = λ above. untrue c.if-not-are_at_least_1.true (c.are_at_least_1.ensures.1 (rw c.bounds-2.ensures above));
 })
 
 pub returns-clause-held : goal.returns-clause-held
-returns-clause-held g c h pi angle k m v r n sum is_pi consts mean guarded sized =
+returns-clause-held g c h pi angle k m v r n b is_pi consts mean guarded in_box =
     let p = guarded.unguarded in
     let ellipse = c.ellipse_of-ellipse.ensures h pi k m _ r n is_pi consts mean (ellipse_of_position p) in
-    let root = c.in_ok-root.ensures.held h pi _ _ _ angle _ _ _ sum is_pi ellipse.u ellipse.ax ellipse.ay sized (record { turn = _; solves = p.kepler }) in
-    let at = c.corrected_at-at.ensures h pi angle k m _ v _ _ _ _ is_pi consts mean ellipse root p in
-    c.position.ensures h pi k m _ v _ is_pi at p.corrected_latitude p.vector
+    let root = c.in_ok-root.ensures.held h pi _ _ _ angle _ _ _ b.vector is_pi ellipse.u ellipse.ax ellipse.ay in_box.vector (record { turn = _; solves = p.kepler }) in
+    let at = c.corrected_at-at.ensures h pi angle k m _ v _ _ _ _ b is_pi consts mean ellipse root p (λ _. in_box) in
+    c.position.ensures h pi k m _ v _ b is_pi at p.corrected_latitude p.vector (λ _. in_box)
 
 pub returns-clause-covers : goal.returns-clause-covers
 returns-clause-covers g c h pi angle k m v is_pi consts mean guarded =
     let p = guarded.unguarded in
     let ellipse = c.ellipse_of-ellipse.ensures h pi k m _ _ _ is_pi (covered_consts _ _ g.E.Enc.tells _ k consts h) (covered_mean _ _ g.E.Enc.tells _ h m mean) (ellipse_of_position p) in
     let root = c.in_ok-root.ensures.covers h pi _ _ _ angle is_pi ellipse.u.covers ellipse.ax.covers ellipse.ay.covers (record { turn = _; solves = p.kepler }) in
-    let at = c.corrected_at-at.ensures h pi angle k m _ v _ _ _ _ is_pi (covered_consts _ _ g.E.Enc.tells _ k consts h) (covered_mean _ _ g.E.Enc.tells _ h m mean) ellipse (covered root) p in
-    let position = c.position.ensures h pi k m _ v _ is_pi at p.corrected_latitude p.vector in
+    let at = c.corrected_at-at.ensures h pi angle k m _ v _ _ _ _ no_box is_pi (covered_consts _ _ g.E.Enc.tells _ k consts h) (covered_mean _ _ g.E.Enc.tells _ h m mean) ellipse (covered root) p (λ u. absurd u) in
+    let position = c.position.ensures h pi k m _ v _ no_box is_pi at p.corrected_latitude p.vector (λ u. absurd u) in
     record { x = position.x.covers; y = position.y.covers; z = position.z.covers }
 
 pub returns-clause-exists : goal.returns-clause-exists
@@ -62,6 +62,6 @@ returns-clause-exists g c h pi k m is_pi consts mean divides =
     let p = found.1.1.1 in
     let ellipse = c.ellipse_of-ellipse.ensures h pi k m q _ _ is_pi of_consts of_mean (ellipse_of_position p) in
     let root = c.in_ok-root.ensures.covers h pi _ _ _ found.0 is_pi ellipse.u.covers ellipse.ax.covers ellipse.ay.covers (record { turn = _; solves = p.kepler }) in
-    let at = c.corrected_at-at.ensures h pi found.0 k m q v _ _ _ _ is_pi of_consts of_mean ellipse (covered root) p in
+    let at = c.corrected_at-at.ensures h pi found.0 k m q v _ _ _ _ no_box is_pi of_consts of_mean ellipse (covered root) p (λ u. absurd u) in
     let far = rw c.bounds-2.ensures at (c.are_at_least_1.ensures.0 (grind (arith, c.if-not-are_at_least_1.false))) in
     (found.0, (v, record { periodic = q; unguarded = p; guarded = distance_guarded _ q.mrt far (law _ h q.mrt at.mrt.covers) }))

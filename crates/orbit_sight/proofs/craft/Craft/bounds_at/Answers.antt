@@ -5,10 +5,13 @@ use Rattle.sgp4_model.specs.Angle.{least_pi}
 use Rattle.orbit_sight.specs.Moment.{units_from}
 use Rattle.orbit_sight.proofs.CraftLemmas.{if_kept, if_not_kept, position_held}
 use Rattle.orbit_sight.proofs.DayLemmas.{some_pi}
-use Rattle.orbit_sight.proofs.FoundLemmas.{away_unless, mean_of, not_out_of_guard, not_unplaced, position_at, position_of}
+use Rattle.orbit_sight.proofs.FoundLemmas.{away_unless, mean_of, not_out_of_guard, not_unplaced, in_instant_box, position_at, position_of}
 use Rattle.orbit_sight.proofs.OrbitLemmas.{week_inside}
 use Rattle.orbit_sight.proofs.SolutionLemmas.{solution}
-use Rattle.orbit_sight.proofs.WidthLemmas.{bounded, mean_reach, mean_within, most_vector, narrow, time_held, week}
+use Rattle.orbit_sight.proofs.GuardLemmas.{mean_within, position_within}
+use Rattle.orbit_sight.proofs.TakenBoxesLemmas.{instant_fits}
+use Rattle.orbit_sight.proofs.WidthLemmas.{bounded, narrow, time_held, wider}
+use Rattle.orbit_sight.specs.TakenBoxes.{instant_box}
 use Rattle.orbit_sight.proofs.craft.Craft.bounds_at.Goals as goal
 
 pub returns-in-Some-place-clause-holds : goal.returns-in-Some-place-clause-holds
@@ -28,10 +31,10 @@ returns-in-Some-place-clause-narrow c =
     (λ near.
     let known_at = solution set c.args.at consts c.epoch.ensures.elements c.self.invariant near in
     let time = time_held set c.args.at (record { iv = c.time_from.result }) (rw c.epoch.ensures.value at c.time_from.ensures) (week_inside (c.args.at -ℤ set.epoch) near) middle in
-    let mean = mean_within (c.in-Some.ensures.held middle least_pi (units_from set.epoch c.args.at) known_at.constants known_at.mean reach_consts week known_at.held time some_pi (mean_of set c.args.at consts known_at)) in
+    let mean = mean_within (λ a h x k. k) tt reach_consts instant_box instant_fits (c.in-Some.ensures.held middle least_pi (units_from set.epoch c.args.at) known_at.constants known_at.mean reach_consts instant_box.time instant_box.drag known_at.held time known_at.drag_in_box some_pi (mean_of set c.args.at consts known_at)) in
     rw c.bounds_of.ensures
-    (narrow c.in-Some-place.position middle known_at.position
-    (c.in-Some-place.ensures.held middle least_pi known_at.root known_at.constants known_at.mean known_at.position reach_consts mean_reach most_vector some_pi known_at.held mean (position_of set c.args.at consts known_at) known_at.sized))))
+    (wider (narrow instant_box tt (position_within (λ a h x k. k) tt reach_consts instant_box instant_fits
+    (c.in-Some-place.ensures.held middle least_pi known_at.root known_at.constants known_at.mean known_at.position reach_consts instant_box.mean instant_box.position some_pi known_at.held mean (position_of set c.args.at consts known_at) known_at.in_box))))))
 
 pub returns-in-Some-place-clause-exists : goal.returns-in-Some-place-clause-exists
 returns-in-Some-place-clause-exists c =
@@ -47,10 +50,10 @@ returns-in-Some-place-clause-none c =
     (λ u. away_unless (c.args.at -ℤ set.epoch) (λ near.
     let known_at = solution set c.args.at consts c.epoch.ensures.elements c.self.invariant near in
     let time = time_held set c.args.at (record { iv = c.time_from.result }) (rw c.epoch.ensures.value at c.time_from.ensures) (week_inside (c.args.at -ℤ set.epoch) near) middle in
-    let mean = mean_within (c.in-Some.ensures.held middle least_pi (units_from set.epoch c.args.at) known_at.constants known_at.mean reach_consts week known_at.held time some_pi (mean_of set c.args.at consts known_at)) in
+    let mean = mean_within (λ a h x k. k) tt reach_consts instant_box instant_fits (c.in-Some.ensures.held middle least_pi (units_from set.epoch c.args.at) known_at.constants known_at.mean reach_consts instant_box.time instant_box.drag known_at.held time known_at.drag_in_box some_pi (mean_of set c.args.at consts known_at)) in
     (rw c.bounds_of.ensures at u)
-    (bounded c.in-Some-place.position middle known_at.position
-    (c.in-Some-place.ensures.held middle least_pi known_at.root known_at.constants known_at.mean known_at.position reach_consts mean_reach most_vector some_pi known_at.held mean (position_of set c.args.at consts known_at) known_at.sized)))))
+    (bounded instant_box tt (position_within (λ a h x k. k) tt reach_consts instant_box instant_fits
+    (c.in-Some-place.ensures.held middle least_pi known_at.root known_at.constants known_at.mean known_at.position reach_consts instant_box.mean instant_box.position some_pi known_at.held mean (position_of set c.args.at consts known_at) known_at.in_box))))))
 
 pub returns-in-None-place-clause-exists : goal.returns-in-None-place-clause-exists
 returns-in-None-place-clause-exists c =
@@ -65,8 +68,8 @@ returns-in-None-place-clause-none c =
     (away_unless (c.args.at -ℤ set.epoch) (λ near.
     let known_at = solution set c.args.at consts c.epoch.ensures.elements c.self.invariant near in
     let time = time_held set c.args.at (record { iv = c.time_from.result }) (rw c.epoch.ensures.value at c.time_from.ensures) (week_inside (c.args.at -ℤ set.epoch) near) middle in
-    let mean = mean_within (c.in-Some.ensures.held middle least_pi (units_from set.epoch c.args.at) known_at.constants known_at.mean reach_consts week known_at.held time some_pi (mean_of set c.args.at consts known_at)) in
-    not_unplaced set c.args.at consts known_at c.in-Some.mean mean c.in-None-place.ensures.none))
+    let mean = mean_within (λ a h x k. k) tt reach_consts instant_box instant_fits (c.in-Some.ensures.held middle least_pi (units_from set.epoch c.args.at) known_at.constants known_at.mean reach_consts instant_box.time instant_box.drag known_at.held time known_at.drag_in_box some_pi (mean_of set c.args.at consts known_at)) in
+    not_unplaced instant_box instant_fits set c.args.at consts known_at (in_instant_box set c.args.at consts known_at) c.in-Some.mean mean c.in-None-place.ensures.none))
 
 pub returns-in-None-clause-exists : goal.returns-in-None-clause-exists
 returns-in-None-clause-exists c =
@@ -81,4 +84,4 @@ returns-in-None-clause-none c =
     (away_unless (c.args.at -ℤ set.epoch) (λ near.
     let known_at = solution set c.args.at consts c.epoch.ensures.elements c.self.invariant near in
     let time = time_held set c.args.at (record { iv = c.time_from.result }) (rw c.epoch.ensures.value at c.time_from.ensures) (week_inside (c.args.at -ℤ set.epoch) near) middle in
-    not_out_of_guard set c.args.at consts known_at (record { iv = c.time_from.result }) time c.in-None.ensures.none))
+    not_out_of_guard instant_box instant_fits set c.args.at consts known_at (in_instant_box set c.args.at consts known_at) (record { iv = c.time_from.result }) time c.in-None.ensures.none))

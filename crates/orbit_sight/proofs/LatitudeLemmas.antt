@@ -1,0 +1,102 @@
+-- The sine and the cosine of the argument of latitude are a pair, nearly: both are at most 1.01 in size. And the sine of a small
+-- angle is small.
+use Rattle.std.proofs.Common.{◌≡◌, ◌∙◌, ap, sym, subst, [], ◌∷◌, ◌-◌, ◌*◌, ◌^◌, pos, negsuc}
+use Rattle.exact.specs.Rational.{ℚ, inverse, ratio, neg_ℚ, one_ℚ, zero_ℚ, ◌+ℚ◌, ◌-ℚ◌, ◌*ℚ◌, ◌/ℚ◌, ◌^ℚ◌, ◌≤ℚ◌}
+use Rattle.exact.proofs.Bounds.{by_sign, square}
+use Rattle.exact.proofs.Intervals.{Inside, between, inside, le_on}
+use Rattle.exact.proofs.Order.{NonNeg, gap, known, le_by, not_negative, ◌⊕◌, ◌⊗◌}
+use Rattle.exact.proofs.RationalRing.{ring, reads}
+use Rattle.exact.proofs.Strict.{mul_inverse}
+use Rattle.sgp4_model.specs.Angle.{IsNear, IsPi, IsSinCos, part}
+use Rattle.sgp4_model.specs.PairLaws.{IsModest}
+use Rattle.sgp4_model.proofs.Lipschitz.{sine_pairs_are_lipschitz}
+use Rattle.sgp4_model.proofs.Mirror.{reflection_keeps_pairs}
+
+-- ---- the sum of the squares of the numerators
+-- with j as 1 / (1 + b), where b^2 is 1 - l to d: what the square root leaves
+root_leaves : (b l j : ℚ) → (one_ℚ +ℚ b) *ℚ j ≡ one_ℚ → j *ℚ j *ℚ l -ℚ (j +ℚ j) +ℚ one_ℚ ≡ j *ℚ j *ℚ (b *ℚ b -ℚ (one_ℚ -ℚ l))
+root_leaves b l j e =
+    ring (b ∷ l ∷ j ∷ []) {y = (one_ℚ -ℚ (one_ℚ +ℚ b) *ℚ j) *ℚ (one_ℚ -ℚ j +ℚ j *ℚ b) +ℚ j *ℚ j *ℚ (b *ℚ b -ℚ (one_ℚ -ℚ l))} (search reads depth 120) tt
+    ∙ ap (λ t. (one_ℚ -ℚ t) *ℚ (one_ℚ -ℚ j +ℚ j *ℚ b) +ℚ j *ℚ j *ℚ (b *ℚ b -ℚ (one_ℚ -ℚ l))) e
+    ∙ ring (b ∷ l ∷ j ∷ []) (search reads depth 120) tt
+
+-- the inner product x c + y s, and the outer one x s - y c
+abbrev inner : ℚ → ℚ → ℚ → ℚ → ℚ
+inner x y s c = x *ℚ c +ℚ y *ℚ s
+
+abbrev outer : ℚ → ℚ → ℚ → ℚ → ℚ
+outer x y s c = x *ℚ s -ℚ y *ℚ c
+
+-- they are those of the distance over the semimajor axis, but for two small terms
+squares_are : (x y s c j : ℚ) →
+    (s -ℚ y -ℚ x *ℚ outer x y s c *ℚ j) *ℚ (s -ℚ y -ℚ x *ℚ outer x y s c *ℚ j) +ℚ (c -ℚ x +ℚ y *ℚ outer x y s c *ℚ j) *ℚ (c -ℚ x +ℚ y *ℚ outer x y s c *ℚ j) ≡
+    (one_ℚ -ℚ inner x y s c) *ℚ (one_ℚ -ℚ inner x y s c) +ℚ (s *ℚ s +ℚ c *ℚ c -ℚ one_ℚ) *ℚ (one_ℚ -ℚ (x *ℚ x +ℚ y *ℚ y))
+    +ℚ outer x y s c *ℚ outer x y s c *ℚ (j *ℚ j *ℚ (x *ℚ x +ℚ y *ℚ y) -ℚ (j +ℚ j) +ℚ one_ℚ)
+squares_are x y s c j = ring (x ∷ y ∷ s ∷ c ∷ j ∷ []) (search reads depth 300) tt
+
+-- the two small terms, n as the sum of the squares of the pair less 1, l as the square of the vector's length, o as the outer product
+terms_small : (n l o j d : ℚ) → Inside (between (negsuc 0) 1000000 (pos 1) 1000000) n → Inside (between (pos 0) 1 (pos 1) 1) l → Inside (between (negsuc 0) 1 (pos 1) 1) o → Inside (between (pos 0) 1 (pos 1) 1) j →
+    Inside (between (negsuc 0) 1000000 (pos 1) 1000000) d → n *ℚ (one_ℚ -ℚ l) +ℚ o *ℚ o *ℚ (j *ℚ j *ℚ d) ≤ℚ ratio (pos 1) 1000
+terms_small n l o j d h i k m p =
+    le_on (10 ^ 30) (between (negsuc 0) 1000000 (pos 1) 1000000 ∷ between (pos 0) 1 (pos 1) 1 ∷ between (negsuc 0) 1 (pos 1) 1 ∷ between (pos 0) 1 (pos 1) 1 ∷ between (negsuc 0) 1000000 (pos 1) 1000000 ∷ [])
+    (n ∷ l ∷ o ∷ j ∷ d ∷ []) (h, (i, (k, (m, (p, tt))))) (search reads depth 120) tt
+
+near_million : (a b : ℚ) (m : ℚ) → m ≤ℚ ratio (pos 1) 1000000 → IsNear m a b → Inside (between (negsuc 0) 1000000 (pos 1) 1000000) (a -ℚ b)
+near_million a b m h n =
+    inside (negsuc 0) 1000000 (pos 1) 1000000
+    (le_by (a ∷ b ∷ m ∷ []) (gap n.below ⊕ gap h) (search reads depth 90) tt)
+    (le_by (a ∷ b ∷ m ∷ []) (gap n.above ⊕ gap h) (search reads depth 90) tt)
+
+pub squares_below : (x y s c b j : ℚ) → (one_ℚ +ℚ b) *ℚ j ≡ one_ℚ → Inside (between (pos 0) 1 (pos 1) 1) j → IsNear (part 58) (s *ℚ s +ℚ c *ℚ c) one_ℚ → IsNear (part 60) (b *ℚ b) (one_ℚ -ℚ (x *ℚ x +ℚ y *ℚ y)) →
+    Inside (between (pos 0) 1 (pos 1) 1) (x *ℚ x +ℚ y *ℚ y) → Inside (between (negsuc 0) 1 (pos 1) 1) (outer x y s c) →
+    (s -ℚ y -ℚ x *ℚ outer x y s c *ℚ j) *ℚ (s -ℚ y -ℚ x *ℚ outer x y s c *ℚ j) +ℚ (c -ℚ x +ℚ y *ℚ outer x y s c *ℚ j) *ℚ (c -ℚ x +ℚ y *ℚ outer x y s c *ℚ j) ≤ℚ
+    (one_ℚ -ℚ inner x y s c) *ℚ (one_ℚ -ℚ inner x y s c) +ℚ ratio (pos 1) 1000
+squares_below x y s c b j e of_j squares root length of_outer =
+    rw (squares_are x y s c j, root_leaves b (x *ℚ x +ℚ y *ℚ y) j e)
+    (le_by
+    ((one_ℚ -ℚ inner x y s c) ∷ (s *ℚ s +ℚ c *ℚ c -ℚ one_ℚ) ∷ (x *ℚ x +ℚ y *ℚ y) ∷ outer x y s c ∷ j ∷ (b *ℚ b -ℚ (one_ℚ -ℚ (x *ℚ x +ℚ y *ℚ y))) ∷ [])
+    (gap (terms_small _ _ _ j _
+    (near_million _ _ (part 58) (le_by [] (known (2 ^ 58 - 1000000) (2 ^ 58 * 1000000)) (search reads depth 90) tt) squares) length of_outer of_j
+    (near_million _ _ (part 60) (le_by [] (known (2 ^ 60 - 1000000) (2 ^ 60 * 1000000)) (search reads depth 90) tt) root)))
+    (search reads depth 200) tt)
+
+-- ---- a factor of a number whose square is little more than that of the other factor
+below_by_squares : (u w g : ℚ) → ratio (pos 6) 10 ≤ℚ g *ℚ g → u *ℚ g *ℚ (u *ℚ g) +ℚ w *ℚ g *ℚ (w *ℚ g) ≤ℚ g *ℚ g +ℚ ratio (pos 1) 1000 → u ≤ℚ ratio (pos 101) 100
+below_by_squares u w g high h =
+    by_sign (ratio (pos 101) 100 -ℚ u)
+    (λ n. le_by (u ∷ []) n (search reads depth 90) tt)
+    (λ n. le_by (u ∷ w ∷ g ∷ [])
+    (known 50000 553 ⊗ n ⊗ (gap h ⊕ known 202 100 ⊗ square g ⊗ n ⊕ square g ⊗ square (u -ℚ ratio (pos 101) 100) ⊕ square (w *ℚ g) ⊕ known 201 10000 ⊗ gap high))
+    (search reads depth 200) tt)
+
+pub both_below : (u w g p q : ℚ) → ratio (pos 6) 10 ≤ℚ g *ℚ g → u *ℚ g ≡ p → w *ℚ g ≡ q → p *ℚ p +ℚ q *ℚ q ≤ℚ g *ℚ g +ℚ ratio (pos 1) 1000 →
+    Inside (between (negsuc 100) 100 (pos 101) 100) u × Inside (between (negsuc 100) 100 (pos 101) 100) w
+both_below u w g p q high e f h = (of u w k, of w u (le_by (u ∷ w ∷ g ∷ []) (gap k) (search reads depth 90) tt))
+  where
+    k : u *ℚ g *ℚ (u *ℚ g) +ℚ w *ℚ g *ℚ (w *ℚ g) ≤ℚ g *ℚ g +ℚ ratio (pos 1) 1000
+    k = rw (e, f) h
+
+    of : (u w : ℚ) → u *ℚ g *ℚ (u *ℚ g) +ℚ w *ℚ g *ℚ (w *ℚ g) ≤ℚ g *ℚ g +ℚ ratio (pos 1) 1000 → Inside (between (negsuc 100) 100 (pos 101) 100) u
+    of u w h =
+        let other = below_by_squares (neg_ℚ u) w g high (le_by (u ∷ w ∷ g ∷ []) (gap h) (search reads depth 90) tt) in
+        inside (negsuc 100) 100 (pos 101) 100 (le_by (u ∷ []) (gap other) (search reads depth 90) tt) (below_by_squares u w g high h)
+
+-- ---- the sine of a small angle: the opposite angle has the opposite sine
+pub sine_small : (pi x s c : ℚ) → IsPi pi → IsSinCos pi x s c → IsNear (ratio (pos 26) 10000) x zero_ℚ → Inside (between (negsuc 2) 1000 (pos 3) 1000) s
+sine_small pi x s c is_pi pair small =
+    let near = (sine_pairs_are_lipschitz pi pi x (neg_ℚ x) (ratio (pos 52) 10000) s c (neg_ℚ s) c is_pi is_pi (modest x small.above small.below) (modest (neg_ℚ x) (le_by (x ∷ []) (gap small.below) (search reads depth 90) tt) (le_by (x ∷ []) (gap small.above) (search reads depth 90) tt)) apart pair (reflection_keeps_pairs pi x s c pair)).0 in
+    inside (negsuc 2) 1000 (pos 3) 1000
+    (le_by (s ∷ []) (known 1 2 ⊗ gap near.below ⊕ known (4 * 2 ^ 58 - 10000) (2 ^ 58 * 10000)) (search reads depth 90) tt)
+    (le_by (s ∷ []) (known 1 2 ⊗ gap near.above ⊕ known (4 * 2 ^ 58 - 10000) (2 ^ 58 * 10000)) (search reads depth 90) tt)
+  where
+    modest : (y : ℚ) → y ≤ℚ zero_ℚ +ℚ ratio (pos 26) 10000 → zero_ℚ ≤ℚ y +ℚ ratio (pos 26) 10000 → IsModest y
+    modest y h k = record {
+      low = le_by (y ∷ []) (gap k ⊕ known 10485759974 10000) (search reads depth 90) tt;
+      high = le_by (y ∷ []) (gap h ⊕ known 10485759974 10000) (search reads depth 90) tt;
+    }
+
+    apart : IsNear (ratio (pos 52) 10000) x (neg_ℚ x)
+    apart = record {
+      above = le_by (x ∷ []) (gap small.above ⊕ gap small.above) (search reads depth 90) tt;
+      below = le_by (x ∷ []) (gap small.below ⊕ gap small.below) (search reads depth 90) tt;
+    }
