@@ -171,7 +171,7 @@ turn_held {E = E} {a} {s} {c} {h} {p} {x} {y} {z} {r} covers narrow pi i k =
     )
 
 -- ---- a given interval
-known_constant : (v : Iv) (r : Extent) (x : ℚ) (i : Interval) (n : ℕ) → IsNarrowConstant v r → Holds v x → IsBounded v → width_of v ≤ n → Inside i x →
+pub known_constant : (v : Iv) (r : Extent) (x : ℚ) (i : Interval) (n : ℕ) → IsNarrowConstant v r → Holds v x → IsBounded v → width_of v ≤ n → Inside i x →
     T (is_small (outer (reach_of i n))) → IsKnown r x i n
 known_constant v r x i n rule hx b w h t =
     by_rule r _ _ _ rule b small h (λ f. nat_trans f w)

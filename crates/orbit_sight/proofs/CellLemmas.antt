@@ -125,13 +125,13 @@ tick_given tick {v} h t = record {
     to_most : of_int (pos tick) ≤ℚ ratio (pos 8640000000) 1
     to_most = rw (← of_int_is (pos 8640000000)) (of_int_le (omega (arith, ints, h)))
 
-at_start : Place
+pub at_start : Place
 at_start = record { at = neg_ℚ one_ℚ; low = le_refl _; high = le_by [] (known 2 1) (search reads depth 90) tt }
 
 at_end : Place
 at_end = record { at = one_ℚ; low = le_by [] (known 2 1) (search reads depth 90) tt; high = le_refl _ }
 
-line_starts : (x y : ℚ) → on_line at_start x y ≡ x
+pub line_starts : (x y : ℚ) → on_line at_start x y ≡ x
 unfolding at_start
 line_starts x y = ring (x ∷ y ∷ []) (search reads depth 90) tt
 
@@ -186,3 +186,7 @@ least_spread {m} {n} {e} is h = record { measured = h.within.measured; spread = 
 
 pub start_within : {m n : ℕ} → m < n → IsWithin m n (of_int (pos m))
 start_within {m} {n} h = record { low = le_refl _; high = of_int_le (omega (arith, ints, h)) }
+
+-- the time along the cell
+pub line_of_time : (h : Place) (x y : ℚ) → on_line h (time_of_place x) (time_of_place y) ≡ time_of_place (on_line h x y)
+line_of_time h x y = ring (h.at ∷ x ∷ y ∷ []) (search reads depth 90) tt

@@ -1,6 +1,6 @@
 -- From enclosed constants to the bounds of a position, or to why there are none.
 use Rattle.std.proofs.Common.{◌≡◌, subst, sym, inl, inr, true, ℤ, Option, None, Some}
-use Rattle.std.specs.Prelude.{IfNone, IfSome}
+use Rattle.std.specs.Prelude.{IfNone, IfSome, MatchOption}
 use Rattle.exact.specs.Rational.{ℚ, ◌*ℚ◌}
 use Rattle.elements.specs.Elements.{ElementsRecord, record_of_elements}
 use Rattle.enc_plain.specs.declared.plain.Plain.{Plain}
@@ -57,3 +57,13 @@ if_kept P (Some kept) v h p = subst P (sym h.0) p
 pub if_not_kept : (P : Type 0) (o : Option (Vec3 Iv)) (v : Vec3 Iv) → IfNone o (¬ IsBoundedVector v) → ((¬ IsBoundedVector v) → P) → IfNone o P
 if_not_kept P None v h f = f h
 if_not_kept P (Some kept) v h f = tt
+
+-- what holds of what is there, from what holds of it
+pub if_there : {V : Type 0} {P Q : V → Type 0} (o : Option V) → IfSome o P → ((v : V) → P v → Q v) → IfSome o Q
+if_there None p f = tt
+if_there (Some v) p f = f v p
+
+-- where nothing that is missing is possible, something is there
+pub always_there : {V : Type 0} {P Q : V → Type 0} {N : Type 0} (o : Option V) → IfSome o P → IfNone o N → ((v : V) → P v → Q v) → (N → ⊥) → MatchOption o ⊥ Q
+always_there None p n f g = g n
+always_there (Some v) p n f g = f v p

@@ -1,13 +1,15 @@
 -- Within seven days of the epoch bounds are found: no guard fails.
-use Rattle.std.proofs.Common.{arith, inl, inr, subst, sym, true, [], ◌∷◌, ◌<◌, ◌*◌, ◌^◌, ℤ, pos, unsigned_abs}
+use Rattle.std.proofs.Common.{arith, inl, inr, subst, sym, Bool, T, [], ◌∷◌, ◌<◌, ◌*◌, ◌^◌, ℤ, pos, unsigned_abs}
 use Rattle.std.proofs.lemmas.Int.{ints, by_lt_z}
-use Rattle.exact.specs.Rational.{◌*ℚ◌, ◌≤ℚ◌}
+use Rattle.exact.specs.Rational.{ℚ, ◌*ℚ◌, ◌≤ℚ◌}
 use Rattle.exact.proofs.Order.{gap, known, le_by, ◌⊕◌}
 use Rattle.exact.proofs.RationalRing.{number_of, reads}
 use Rattle.elements.specs.Elements.{ElementsRecord, record_of_elements}
 use Rattle.enc_plain.specs.declared.plain.Plain.{Plain}
-use Rattle.enc_plain.proofs.PlainHeld.{middle}
+use Rattle.fixed_iv.specs.Extent.{Extent}
+use Rattle.fixed_iv.specs.Place.{Place}
 use Rattle.fixed_iv.specs.Reach.{IsHeld}
+use Rattle.fixed_iv.proofs.Held.{Contained}
 use Rattle.fixed_iv.proofs.OuterLemmas.{number_ratio}
 use Rattle.sgp4_drag.specs.Secular.{IsOutOfGuard}
 use Rattle.sgp4_init.specs.ReachConsts.{reach_consts}
@@ -18,13 +20,13 @@ use Rattle.sgp4_model.specs.PositionAt.{IsPositionAt}
 use Rattle.sgp4_model.specs.Time.{instant_of_nanos}
 use Rattle.sgp4_model.specs.Vector.{Vector}
 use Rattle.sgp4_shape.specs.Covering.{unit_minutes}
+use Rattle.sgp4_shape.specs.HeldConsts.{IsHeldConsts}
 use Rattle.sgp4_shape.specs.HeldMean.{IsHeldMean}
 use Rattle.sgp4_shape.specs.declared.consts.Consts.{Consts}
 use Rattle.sgp4_shape.specs.declared.mean.Mean.{Mean}
 use Rattle.sgp4_periodic.specs.Unplaced.{IsUnplaced}
 use Rattle.sgp4_periodic.proofs.PlaceLemmas.{ellipse_of_position}
 use Rattle.orbit_sight.specs.Box.{IsFit, IsOrbitInBox, OrbitBox}
-use Rattle.orbit_sight.specs.Craft.{plain_covers, plain_extent}
 use Rattle.orbit_sight.specs.Moment.{units_from}
 use Rattle.orbit_sight.specs.TakenBoxes.{cell_box, instant_box, taken_far}
 use Rattle.orbit_sight.proofs.DayLemmas.{some_pi}
@@ -75,22 +77,23 @@ module _ (set : ElementsRecord) (at : ℤ) (consts : Consts Plain) (known_at : S
   pub in_cell_box : IsOrbitInBox constants periodic cell_box
   in_cell_box = record { drag = known_at.drag_in_box; position = known_at.in_box; far = far_enough }
 
--- what lies in a box that fits meets the guards
-module _ (b : OrbitBox) (fit : IsFit reach_consts b) (set : ElementsRecord) (at : ℤ) (consts : Consts Plain) (known_at : Solution set at consts) (in_box : IsOrbitInBox known_at.constants known_at.periodic b) where
+-- what lies in a box that fits meets the guards, with any enclosure that tells its spread
+module _ {A : Type 0} {C : A → Place → ℚ → Type 0} {E : A → Extent} {told : Bool} (law : Contained C E) (is_told : T told) (b : OrbitBox) (fit : IsFit reach_consts b) (set : ElementsRecord) (at : ℤ) (plain : Consts Plain)
+    (known_at : Solution set at plain) (in_box : IsOrbitInBox known_at.constants known_at.periodic b) {h : Place} (consts : Consts A) (held_consts : IsHeldConsts C E told consts h known_at.constants reach_consts) where
   open known_at use {constants, mean, periodic, secular}
 
   -- the eccentricity is inside its guard
-  pub not_out_of_guard : (time : Plain) → IsHeld plain_covers plain_extent true time middle (units_from set.epoch at) b.time → IsOutOfGuard plain_covers plain_extent true consts time → ⊥
+  pub not_out_of_guard : (time : A) → IsHeld C E told time h (units_from set.epoch at) b.time → IsOutOfGuard C E told consts time → ⊥
   not_out_of_guard time held u =
-      u.outside (inside_guard (λ a h x k. k) tt reach_consts b fit u.ecc secular.ecc (u.held middle least_pi (units_from set.epoch at) constants secular mean reach_consts b.time b.drag some_pi known_at.held held in_box.drag known_at.mean_is))
+      u.outside (inside_guard law is_told reach_consts b fit u.ecc secular.ecc (u.held h least_pi (units_from set.epoch at) constants secular mean reach_consts b.time b.drag some_pi held_consts held in_box.drag known_at.mean_is))
 
   -- Kepler's equation, the semilatus rectum and the distance are certified
-  pub not_unplaced : (m : Mean Plain) → IsHeldMean plain_covers plain_extent true m middle mean b.mean → IsUnplaced plain_covers plain_extent true consts m → ⊥
+  pub not_unplaced : (m : Mean A) → IsHeldMean C E told m h mean b.mean → IsUnplaced C E told consts m → ⊥
   not_unplaced m held (inl u) =
-      let e = u.held middle least_pi constants mean periodic reach_consts b.mean some_pi known_at.held held (ellipse_of_position known_at.position_is) in
+      let e = u.held h least_pi constants mean periodic reach_consts b.mean some_pi held_consts held (ellipse_of_position known_at.position_is) in
       elim u.outside [
-        | inl v ↦ vector_certified (λ a h x k. k) tt reach_consts b fit u.ellipse.ax u.ellipse.ay periodic.ax periodic.ay e.ax e.ay v
-        | inr f ↦ f (rectum_certified (λ a h x k. k) tt reach_consts b fit u.ellipse.pl periodic.pl e.pl)
+        | inl v ↦ vector_certified law is_told reach_consts b fit u.ellipse.ax u.ellipse.ay periodic.ax periodic.ay e.ax e.ay v
+        | inr f ↦ f (rectum_certified law is_told reach_consts b fit u.ellipse.pl periodic.pl e.pl)
       ]
   not_unplaced m held (inr u) =
-      u.low (distance_certified (λ a h x k. k) tt reach_consts b fit u.mrt periodic.mrt (u.held middle least_pi known_at.root constants mean periodic known_at.position reach_consts b.mean b.position some_pi known_at.held held known_at.position_is in_box.position) in_box.far)
+      u.low (distance_certified law is_told reach_consts b fit u.mrt periodic.mrt (u.held h least_pi known_at.root constants mean periodic known_at.position reach_consts b.mean b.position some_pi held_consts held known_at.position_is in_box.position) in_box.far)

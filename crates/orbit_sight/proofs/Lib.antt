@@ -6,9 +6,11 @@ mod DistanceLemmas
 mod FoundLemmas
 mod GuardLemmas
 mod LatitudeLemmas
+mod LiftLemmas
 mod MomentLemmas
 mod NearOrbitLemmas
 mod OrbitLemmas
+mod OverLemmas
 mod PeriodicLemmas
 mod SolutionLemmas
 mod TakenBoxesLemmas

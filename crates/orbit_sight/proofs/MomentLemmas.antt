@@ -9,10 +9,10 @@ use Rattle.sgp4_model.specs.Time.{instant_of_nanos}
 use Rattle.sgp4_shape.specs.Covering.{unit_minutes}
 use Rattle.orbit_sight.specs.Moment.{units_from}
 
-in_seconds : (z : ℤ) → instant_of_nanos z ≡ of_int z *ℚ ratio (pos 1) 1000000000
+pub in_seconds : (z : ℤ) → instant_of_nanos z ≡ of_int z *ℚ ratio (pos 1) 1000000000
 in_seconds z = ratio_is_product z 1000000000
 
-in_units_of_time : (epoch at : ℤ) → units_from epoch at ≡ (of_int at -ℚ of_int epoch) *ℚ ratio (pos 1) 983040000000000
+pub in_units_of_time : (epoch at : ℤ) → units_from epoch at ≡ (of_int at -ℚ of_int epoch) *ℚ ratio (pos 1) 983040000000000
 in_units_of_time epoch at =
     ratio_is_product (at -ℤ epoch) 983040000000000
     ∙ ap (λ x. x *ℚ ratio (pos 1) 983040000000000) (of_int_add at (neg_ℤ epoch) ∙ ap (λ x. of_int at +ℚ x) (of_int_neg epoch))

@@ -13,7 +13,7 @@ use Rattle.fixed_iv.specs.Ends.{in_units}
 use Rattle.fixed_iv.specs.Extent.{AreSmall, width_of}
 use Rattle.fixed_iv.specs.Holds.{IsBounded, IsTightest}
 use Rattle.fixed_iv.specs.Place.{Place}
-use Rattle.fixed_iv.specs.Reach.{IsHeld}
+use Rattle.fixed_iv.specs.Reach.{IsGiven, IsHeld}
 use Rattle.fixed_iv.specs.declared.iv.Iv.{Iv}
 use Rattle.fixed_iv.specs.declared.vec3.Vec3.{Vec3}
 use Rattle.fixed_iv.proofs.NarrowLemmas.{measured_of}
@@ -35,23 +35,29 @@ at_most_2 v h = of_ends (width_of v) v.lo v.hi (width_is v) (le_of_int (le_trans
     of_ends : (n : ℕ) (lo hi : ℤ) → pos n ≡ hi -ℤ lo → hi ≤ℤ (lo +ℤ pos 2) → n ≤ 2
     of_ends n lo hi e k = omega (arith, ints, e, k)
 
-pub time_held : (set : ElementsRecord) (at : ℤ) (time : Plain) → IsTightest (λ x. x ≡ units_from set.epoch at) time.iv → WeekInside (units_from set.epoch at) → (h : Place) →
-    IsHeld plain_covers plain_extent true time h (units_from set.epoch at) instant_box.time
-time_held set at time tight inside h =
-    record {
-      covers = tight.holds _ refl;
-      known = λ _ _. record { inside = inside; measured = measured_of time.iv bounded; narrow = at_most_2 time.iv (tight_width zero_ℚ tight bounded refl (λ y z e f. rw (e, f) (le_by ((in_units (units_from set.epoch at)) ∷ []) (known 0 1) (search reads depth 90) tt))) };
-    }
+pub time_given : (v : Iv) (epoch at : ℤ) → IsTightest (λ x. x ≡ units_from epoch at) v → WeekInside (units_from epoch at) → IsGiven v (units_from epoch at) (between (negsuc 6152) 10000 (pos 6153) 10000) 2
+time_given v epoch at tight inside = record {
+  holds = tight.holds _ refl;
+  bounded = bounded;
+  within = at_most_2 v (tight_width zero_ℚ tight bounded refl (λ y z e f. rw (e, f) (le_by ((in_units (units_from epoch at)) ∷ []) (known 0 1) (search reads depth 90) tt)));
+  inside = inside;
+}
   where
-    small : AreSmall (λ x. x ≡ units_from set.epoch at)
+    small : AreSmall (λ x. x ≡ units_from epoch at)
     small z e =
         rw e
         (abs_le
-        (le_on (10 ^ 30) (between (negsuc 6152) 10000 (pos 6153) 10000 ∷ []) ((units_from set.epoch at) ∷ []) (inside, tt) (search reads depth 90) tt)
-        (le_on (10 ^ 30) (between (negsuc 6152) 10000 (pos 6153) 10000 ∷ []) ((units_from set.epoch at) ∷ []) (inside, tt) (search reads depth 90) tt))
+        (le_on (10 ^ 30) (between (negsuc 6152) 10000 (pos 6153) 10000 ∷ []) ((units_from epoch at) ∷ []) (inside, tt) (search reads depth 90) tt)
+        (le_on (10 ^ 30) (between (negsuc 6152) 10000 (pos 6153) 10000 ∷ []) ((units_from epoch at) ∷ []) (inside, tt) (search reads depth 90) tt))
 
-    bounded : IsBounded time.iv
+    bounded : IsBounded v
     bounded = tight_bounded tight small
+
+pub time_held : (set : ElementsRecord) (at : ℤ) (time : Plain) → IsTightest (λ x. x ≡ units_from set.epoch at) time.iv → WeekInside (units_from set.epoch at) → (h : Place) →
+    IsHeld plain_covers plain_extent true time h (units_from set.epoch at) instant_box.time
+time_held set at time tight inside h =
+    let g = time_given time.iv set.epoch at tight inside in
+    record { covers = g.holds; known = λ _ _. record { inside = g.inside; measured = measured_of time.iv g.bounded; narrow = g.within } }
 
 -- ---- the position
 module _ (b : OrbitBox) (ok : T b.coordinate.ok) {position : Vec3 Plain} {h : Place} {v : Vector} (held : IsHeldPosition plain_covers plain_extent true position h v (box_position b)) where

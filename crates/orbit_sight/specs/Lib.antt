@@ -3,4 +3,5 @@ pub mod Cell
 pub mod Craft
 pub mod DayReach
 pub mod Moment
+pub mod Over
 pub mod TakenBoxes

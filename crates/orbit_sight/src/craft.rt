@@ -1,9 +1,21 @@
 //! A satellite, ready to be placed.
-ghost use Rattle.std.specs.Prelude.{◌≡◌, IfOk, IfErr, IfSome, IfNone, Err};
+ghost use Rattle.std.specs.Prelude.{◌≡◌, ◌+◌, ◌<◌, ◌≤◌, IfOk, IfErr, IfSome, IfNone, Err, MatchOption, T, pos};
+ghost use Rattle.elements.specs.Elements.{record_of_elements};
+ghost use Rattle.elements.specs.Window.{tick_instant};
+ghost use Rattle.exact.specs.Rational.{of_int};
+ghost use Rattle.fixed_iv.specs.Place.{Place, on_line};
+ghost use Rattle.orbit_sight.specs.Over.{IsSpreadVector};
+ghost use Rattle.orbit_sight.specs.TakenBoxes.{cell_spread};
+ghost use Rattle.sgp4_model.specs.PositionAt.{IsPositionAt};
+ghost use Rattle.sgp4_model.specs.Time.{instant_of_place};
+ghost use Rattle.sgp4_model.specs.Vector.{Vector};
+ghost use Rattle.sgp4_motion.specs.Fate.{IsFar};
+ghost use Rattle.sgp4_periodic.specs.Covered.{CoversPosition};
 
 use crate::bounded::bounded;
 use crate::moment::time_from;
-use elements::{Elements, Instant};
+use crate::position::position_over;
+use elements::{Elements, Instant, Window};
 use enc_plain::Plain;
 use fixed_iv::{Enc, Iv, Vec3};
 use sgp4_drag::secular;
@@ -32,11 +44,8 @@ impl Model for Craft {
 
 impl Craft {
     ghost use Rattle.sgp4_motion.specs.Fate.{IsBetweenLimits};
-    ghost use Rattle.elements.specs.Elements.{record_of_elements};
     ghost use Rattle.orbit_sight.specs.Craft.{HoldsVector, IsBoundedVector, IsNarrowVector};
-    ghost use Rattle.sgp4_model.specs.PositionAt.{IsPositionAt};
     ghost use Rattle.sgp4_model.specs.Time.{instant_of_nanos};
-    ghost use Rattle.sgp4_model.specs.Vector.{Vector};
     ghost use Rattle.sgp4_motion.specs.Fate.{IsAway, IsNearEarth, IsOrdinary, IsRefusedExactly, MayRefuseSet};
 
     /// The satellite of an element set, or why the set is refused.
@@ -73,6 +82,19 @@ impl Craft {
             None => None,
         }
     }
+}
+
+/// The position of a satellite over the closed cell from one tick of a window to another, in Earth radii, in the frame of the
+/// true equator and mean equinox (TEME): at each place of the cell, from -1 at its first tick to 1 at its last, each position of
+/// the set at that instant. An enclosure that tells its spread has an answer on each least cell, and is narrow there.
+pub fn over<E: Enc>(craft: &Craft, window: &Window, from: u64, to: u64) -> Option<Vec3<E>>
+    requires not_far { ¬ IsFar (record_of_elements craft.now) window.now.start (tick_instant window.now.start window.now.ticks) }
+    requires not_empty { from < to }
+    requires inside { to ≤ window.now.ticks }
+    ensures covers { IfSome result (λ position. (h : Place) (r : Vector) → IsPositionAt (record_of_elements craft.now) (instant_of_place window.now.start (on_line h (of_int (pos from)) (of_int (pos to)))) r → CoversPosition E.covers position h r) }
+    ensures least { T E.tells → to ≡ from + 1 → MatchOption result ⊥ (IsSpreadVector cell_spread E.extent) }
+{
+    position_over(&craft.set, &craft.consts, window.start(), from, to)
 }
 
 /// The bounds of three enclosures.

@@ -8,7 +8,8 @@ mod day_judge;
 mod daylight;
 mod far;
 mod moment;
+mod position;
 
-pub use craft::Craft;
+pub use craft::{Craft, over};
 pub use day_judge::DayJudge;
 pub use far::{is_far, is_far_at};

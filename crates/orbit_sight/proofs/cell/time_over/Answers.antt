@@ -1,6 +1,9 @@
 use Rattle.std.proofs.Common.{subst}
-use Rattle.orbit_sight.proofs.CellLemmas.{cell_extent, least_spread, on_ticks}
+use Rattle.orbit_sight.proofs.CellLemmas.{cell_extent, least_spread, line_of_time, on_ticks}
 use Rattle.orbit_sight.proofs.cell.time_over.Goals as goal
+
+pub returns-clause-along : goal.returns-clause-along
+returns-clause-along g c h = subst (g.E.Enc.covers c.line.result h) (line_of_time h _ _) (c.line.ensures.covers h _ _ c.tick_time.ensures.holds c.tick_time-2.ensures.holds)
 
 pub returns-clause-covers : goal.returns-clause-covers
 returns-clause-covers g c place w =

@@ -69,7 +69,7 @@ returns-in-None-place-clause-none c =
     let known_at = solution set c.args.at consts c.epoch.ensures.elements c.self.invariant near in
     let time = time_held set c.args.at (record { iv = c.time_from.result }) (rw c.epoch.ensures.value at c.time_from.ensures) (week_inside (c.args.at -ℤ set.epoch) near) middle in
     let mean = mean_within (λ a h x k. k) tt reach_consts instant_box instant_fits (c.in-Some.ensures.held middle least_pi (units_from set.epoch c.args.at) known_at.constants known_at.mean reach_consts instant_box.time instant_box.drag known_at.held time known_at.drag_in_box some_pi (mean_of set c.args.at consts known_at)) in
-    not_unplaced instant_box instant_fits set c.args.at consts known_at (in_instant_box set c.args.at consts known_at) c.in-Some.mean mean c.in-None-place.ensures.none))
+    not_unplaced (λ a h x k. k) tt instant_box instant_fits set c.args.at consts known_at (in_instant_box set c.args.at consts known_at) consts known_at.held c.in-Some.mean mean c.in-None-place.ensures.none))
 
 pub returns-in-None-clause-exists : goal.returns-in-None-clause-exists
 returns-in-None-clause-exists c =
@@ -84,4 +84,4 @@ returns-in-None-clause-none c =
     (away_unless (c.args.at -ℤ set.epoch) (λ near.
     let known_at = solution set c.args.at consts c.epoch.ensures.elements c.self.invariant near in
     let time = time_held set c.args.at (record { iv = c.time_from.result }) (rw c.epoch.ensures.value at c.time_from.ensures) (week_inside (c.args.at -ℤ set.epoch) near) middle in
-    not_out_of_guard instant_box instant_fits set c.args.at consts known_at (in_instant_box set c.args.at consts known_at) (record { iv = c.time_from.result }) time c.in-None.ensures.none))
+    not_out_of_guard (λ a h x k. k) tt instant_box instant_fits set c.args.at consts known_at (in_instant_box set c.args.at consts known_at) consts known_at.held (record { iv = c.time_from.result }) time c.in-None.ensures.none))

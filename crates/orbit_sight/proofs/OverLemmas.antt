@@ -1,0 +1,80 @@
+-- The time over a cell from the epoch of a set, enclosed; and what holds of a least cell.
+use Rattle.std.proofs.Common.{◌≡◌, ◌∙◌, ap, arith, sym, subst, refl, Bool, T, [], ◌∷◌, ◌+◌, ◌*◌, ◌<◌, ◌≤◌, ℕ, ℤ, pos, negsuc, ◌+ℤ◌, ◌-ℤ◌, neg_ℤ}
+use Rattle.std.proofs.lemmas.Int.{ints}
+use Rattle.exact.specs.Rational.{ℚ, of_int, ratio, ◌+ℚ◌, ◌-ℚ◌, ◌*ℚ◌, ◌≤ℚ◌}
+use Rattle.exact.proofs.Integers.{of_int_add, of_int_is, of_int_le, of_int_mul, of_int_neg, ratio_is_product}
+use Rattle.exact.proofs.Intervals.{Inside, between, inside}
+use Rattle.exact.proofs.Order.{gap, known, le_by, ◌⊕◌, ◌⊗◌}
+use Rattle.exact.proofs.RationalRing.{ring, reads}
+use Rattle.earth_frame.specs.Spread.{IsSpreadWithin}
+use Rattle.elements.specs.Window.{most_ticks, tick_instant}
+use Rattle.fixed_iv.specs.Extent.{Extent}
+use Rattle.fixed_iv.specs.Holds.{Holds, IsTightest}
+use Rattle.fixed_iv.specs.Narrow.{IsNarrowConstant, IsNarrowSum}
+use Rattle.fixed_iv.specs.Place.{Place}
+use Rattle.fixed_iv.specs.Reach.{IsHeld, Reach, from_to, given, ◌+ᴿ◌}
+use Rattle.fixed_iv.specs.declared.iv.Iv.{Iv}
+use Rattle.fixed_iv.specs.declared.vec3.Vec3.{Vec3}
+use Rattle.fixed_iv.proofs.Held.{Contained, claim_held, constant_held, held_at, plus_held, within}
+use Rattle.sgp4_model.specs.EpochTime.{minutes_since_epoch}
+use Rattle.sgp4_model.specs.Records.{SetRecord}
+use Rattle.sgp4_model.specs.Time.{instant_of_nanos, instant_of_place}
+use Rattle.sgp4_model.specs.Vector.{Vector}
+use Rattle.sgp4_periodic.specs.Covered.{IsHeldPosition}
+use Rattle.sgp4_shape.specs.Covering.{unit_minutes}
+use Rattle.orbit_sight.specs.Box.{OrbitBox}
+use Rattle.orbit_sight.specs.Cell.{time_of_place}
+use Rattle.orbit_sight.specs.Moment.{units_from}
+use Rattle.orbit_sight.specs.Over.{IsSpreadVector}
+use Rattle.orbit_sight.specs.TakenBoxes.{cell_box, instant_box}
+use Rattle.orbit_sight.proofs.GuardLemmas.{box_position}
+use Rattle.orbit_sight.proofs.MomentLemmas.{in_seconds, in_units_of_time}
+use Rattle.orbit_sight.proofs.OrbitLemmas.{WeekInside}
+use Rattle.orbit_sight.proofs.WidthLemmas.{time_given}
+
+-- ---- the time of a place of a window, from the epoch
+pub minutes_over : (set : SetRecord) (start : ℤ) (p : ℚ) → unit_minutes 1 *ℚ (units_from set.epoch start +ℚ time_of_place p) ≡ minutes_since_epoch set (instant_of_place start p)
+minutes_over set start p =
+    rw (in_units_of_time set.epoch start, in_seconds start, in_seconds set.epoch)
+    (ring (of_int start ∷ of_int set.epoch ∷ p ∷ [])
+    {y = (of_int start *ℚ ratio (pos 1) 1000000000 +ℚ p *ℚ ratio (pos 1) 10000 -ℚ of_int set.epoch *ℚ ratio (pos 1) 1000000000) *ℚ ratio (pos 1) 60} (search reads depth 90) tt)
+
+-- a tick's instant is a whole number of nanoseconds
+pub tick_units : (epoch start : ℤ) (tick : ℕ) → units_from epoch start +ℚ time_of_place (of_int (pos tick)) ≡ units_from epoch (tick_instant start tick)
+tick_units epoch start tick =
+    rw (in_units_of_time epoch start, in_units_of_time epoch (tick_instant start tick), of_int_add start (pos (tick * 100000)), of_int_mul (pos tick) (pos 100000), of_int_is (pos 100000))
+    (ring (of_int start ∷ of_int epoch ∷ of_int (pos tick) ∷ []) (search reads depth 90) tt)
+
+-- the part of a window before a tick is at most ten days long
+part_inside : (tick : ℕ) → tick ≤ most_ticks → Inside (between (pos 0) 1 (pos 1) 1) (time_of_place (of_int (pos tick)))
+part_inside tick h =
+    inside (pos 0) 1 (pos 1) 1
+    (le_by (of_int (pos tick) ∷ []) (gap from_0 ⊗ known 1 9830400000) (search reads depth 90) tt)
+    (le_by (of_int (pos tick) ∷ []) (gap to_most ⊗ known 1 9830400000 ⊕ known 1190400000 9830400000) (search reads depth 90) tt)
+  where
+    from_0 : ratio (pos 0) 1 ≤ℚ of_int (pos tick)
+    from_0 = rw (← of_int_is (pos 0)) (of_int_le (omega (arith, ints)))
+
+    to_most : of_int (pos tick) ≤ℚ ratio (pos 8640000000) 1
+    to_most = rw (← of_int_is (pos 8640000000)) (of_int_le (omega (arith, ints, h)))
+
+-- ---- the enclosure of the time over a least cell, at its first tick
+module _ {A : Type 0} {C : A → Place → ℚ → Type 0} {E : A → Extent} {told : Bool} (law : Contained C E) {v : Iv} {a b r : A} {h : Place} where
+  pub cell_time_held : (epoch start : ℤ) (tick : ℕ) → ((h : Place) (x : ℚ) → Holds v x → C a h x) → (T told → IsNarrowConstant v (E a)) → ((h : Place) (x y : ℚ) → C a h x → C b h y → C r h (x +ℚ y)) →
+      (T told → IsNarrowSum (E a) (E b) (E r)) → IsTightest (λ x. x ≡ units_from epoch start) v → WeekInside (units_from epoch start) → WeekInside (units_from epoch (tick_instant start tick)) → tick ≤ most_ticks →
+      C b h (time_of_place (of_int (pos tick))) → (T told → IsSpreadWithin 28640 (E b)) → IsHeld C E told r h (units_from epoch (tick_instant start tick)) cell_box.time
+  unfolding given ◌+ᴿ◌
+  cell_time_held epoch start tick a_covers a_narrow r_covers r_narrow tight near cell_near most b_covers b_narrow =
+      let shift : IsHeld C E told a h (units_from epoch start) instant_box.time = within instant_box.time (constant_held a_covers a_narrow (time_given v epoch start tight near)) tt in
+      let part : IsHeld C E told b h (time_of_place (of_int (pos tick))) (from_to (pos 0) (pos 1) 1 28640) =
+        record { covers = b_covers; known = λ t _. record { inside = part_inside tick most; measured = (b_narrow t).measured; narrow = (b_narrow t).spread } } in
+      within cell_box.time (claim_held (cell_box.time).range (held_at (tick_units epoch start tick) (plus_held law r_covers r_narrow shift part)) cell_near) tt
+
+-- ---- what a position in the box is known to be
+module _ {A : Type 0} {C : A → Place → ℚ → Type 0} {E : A → Extent} {told : Bool} (is_told : T told) (b : OrbitBox) (ok : T b.coordinate.ok) {position : Vec3 A} {h : Place} {v : Vector} where
+  pub spread_of_position : IsHeldPosition C E told position h v (box_position b) → IsSpreadVector b.coordinate.spread E position
+  spread_of_position held = record {
+    x = let k = held.x.known is_told ok in record { measured = k.measured; spread = k.narrow };
+    y = let k = held.y.known is_told ok in record { measured = k.measured; spread = k.narrow };
+    z = let k = held.z.known is_told ok in record { measured = k.measured; spread = k.narrow };
+  }

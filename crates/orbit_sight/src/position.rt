@@ -1,0 +1,48 @@
+//! The position of a satellite over a cell of a window.
+ghost use Rattle.std.specs.Prelude.{◌≡◌, ◌+◌, ◌<◌, ◌≤◌, IfSome, MatchOption, T, pos};
+ghost use Rattle.exact.specs.Rational.{ℚ, of_int};
+ghost use Rattle.elements.specs.Elements.{record_of_elements};
+ghost use Rattle.elements.specs.Window.{most_ticks, tick_instant};
+ghost use Rattle.fixed_iv.specs.Place.{Place, on_line};
+ghost use Rattle.orbit_sight.specs.Craft.{IsCraft};
+ghost use Rattle.orbit_sight.specs.Over.{IsSpreadVector};
+ghost use Rattle.orbit_sight.specs.TakenBoxes.{cell_spread};
+ghost use Rattle.sgp4_model.specs.PositionAt.{IsPositionAt};
+ghost use Rattle.sgp4_model.specs.Time.{instant_of_place};
+ghost use Rattle.sgp4_model.specs.Vector.{Vector};
+ghost use Rattle.sgp4_motion.specs.Fate.{IsAway};
+ghost use Rattle.sgp4_periodic.specs.Covered.{CoversPosition};
+
+use crate::cell::time_over;
+use crate::moment::time_from;
+use elements::{Elements, Instant};
+use enc_plain::Plain;
+use fixed_iv::{Enc, Vec3};
+use sgp4_drag::secular;
+use sgp4_periodic::place;
+use sgp4_shape::{Consts, lift};
+
+/// The position of a set over the closed cell from one tick of a window to another, from enclosures of its constants.
+pub(crate) fn position_over<E: Enc>(
+    set: &Elements,
+    consts: &Consts<Plain>,
+    start: Instant,
+    from: u64,
+    to: u64,
+) -> Option<Vec3<E>>
+    requires craft { IsCraft set.now consts.now }
+    requires not_empty { from < to }
+    requires inside { to ≤ most_ticks }
+    requires near_start { ¬ IsAway (record_of_elements set.now) start }
+    requires near_cell { ¬ IsAway (record_of_elements set.now) (tick_instant start from) }
+    ensures covers { IfSome result (λ position. (h : Place) (r : Vector) → IsPositionAt (record_of_elements set.now) (instant_of_place start (on_line h (of_int (pos from)) (of_int (pos to)))) r → CoversPosition E.covers position h r) }
+    ensures least { T E.tells → to ≡ from + 1 → MatchOption result ⊥ (IsSpreadVector cell_spread E.extent) }
+{
+    let shift = E::constant(time_from(set.epoch(), start));
+    let time = shift.plus(time_over(from, to));
+    let lifted: Consts<E> = lift(consts);
+    match secular(&lifted, time) {
+        Some(mean) => place(&lifted, &mean),
+        None => None,
+    }
+}
