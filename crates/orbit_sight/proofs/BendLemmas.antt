@@ -1,15 +1,14 @@
 -- The drag term of the mean anomaly times the eccentricity that drag sees is small, where the perigee is at least 300 km high:
 -- it is -2/3 of a term of the density, times the drag term over the eccentricity.
-use Rattle.std.proofs.Common.{◌≡◌, ◌∙◌, refl, ap, sym, subst, [], ◌∷◌, Bool, true, false, not, T, ◌<◌, ℕ, pos, negsuc}
+use Rattle.std.proofs.Common.{◌≡◌, ◌∙◌, refl, ap, sym, subst, [], ◌∷◌, Bool, true, false, not, T, pos, negsuc}
 use Rattle.exact.specs.Rational.{ℚ, at_least_0, inverse, ratio, neg_ℚ, one_ℚ, zero_ℚ, ◌+ℚ◌, ◌-ℚ◌, ◌*ℚ◌, ◌/ℚ◌, ◌^ℚ◌, ◌≤ℚ◌, ◌<ℚ◌}
 use Rattle.exact.proofs.Intervals.{Inside, between, inside}
-use Rattle.exact.proofs.Order.{NonNeg, gap, known, le_by, le_of_not_negative, not_negative, ◌⊕◌, ◌⊗◌}
+use Rattle.exact.proofs.Order.{NonNeg, gap, known, le_by, not_negative, ◌⊕◌, ◌⊗◌}
 use Rattle.exact.proofs.RationalRing.{ring, reads}
 use Rattle.exact.proofs.Strict.{Positive, le_of_lt, le_quotient, mul_inverse, not_zero, positive_known, positive_sum, quotient_le}
 use Rattle.sgp4_model.specs.Angle.{IsNear}
-use Rattle.sgp4_model.specs.Constants.{InitRecord, IsConsts, IsInitialised, kept_of}
+use Rattle.sgp4_model.specs.Constants.{InitRecord, IsConsts}
 use Rattle.sgp4_model.specs.Drag.{near_circle}
-use Rattle.sgp4_model.specs.Numerals.{IsDivisor}
 use Rattle.sgp4_model.specs.OrbitRecords.{ConstRecord}
 use Rattle.sgp4_model.specs.Records.{SetRecord}
 use Rattle.sgp4_model.specs.Wgs72.{density_base_km, density_top_km, earth_radius_km}

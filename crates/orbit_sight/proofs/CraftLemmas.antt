@@ -1,5 +1,5 @@
 -- From enclosed constants to the bounds of a position, or to why there are none.
-use Rattle.std.proofs.Common.{◌≡◌, subst, sym, inl, inr, true, ℤ, Option, None, Some}
+use Rattle.std.proofs.Common.{◌≡◌, subst, sym, ℤ, Option, None, Some}
 use Rattle.std.specs.Prelude.{IfNone, IfSome, MatchOption}
 use Rattle.exact.specs.Rational.{ℚ, ◌*ℚ◌}
 use Rattle.elements.specs.Elements.{ElementsRecord, record_of_elements}
@@ -8,7 +8,6 @@ use Rattle.enc_plain.proofs.PlainHeld.{middle}
 use Rattle.fixed_iv.specs.Place.{Place}
 use Rattle.fixed_iv.specs.declared.iv.Iv.{Iv}
 use Rattle.fixed_iv.specs.declared.vec3.Vec3.{Vec3}
-use Rattle.sgp4_drag.specs.Secular.{IsOutOfGuard}
 use Rattle.sgp4_model.specs.Angle.{IsPi}
 use Rattle.sgp4_model.specs.EpochTime.{minutes_since_epoch}
 use Rattle.sgp4_model.specs.MeanElements.{IsMean}
@@ -18,7 +17,6 @@ use Rattle.sgp4_model.specs.PositionAt.{IsPositionAt}
 use Rattle.sgp4_model.specs.Time.{instant_of_nanos}
 use Rattle.sgp4_model.specs.Vector.{Vector}
 use Rattle.sgp4_periodic.specs.Covered.{CoversPosition}
-use Rattle.sgp4_periodic.specs.Unplaced.{IsUnplaced}
 use Rattle.sgp4_shape.specs.Covering.{CoversConsts, CoversMean, unit_minutes}
 use Rattle.sgp4_shape.specs.declared.consts.Consts.{Consts}
 use Rattle.sgp4_shape.specs.declared.mean.Mean.{Mean}

@@ -1,10 +1,10 @@
 -- The guards are certified where numerals fit: bounds as wide as they say meet the guards.
-use Rattle.std.proofs.Common.{◌≡◌, arith, sym, subst, inl, inr, Bool, ◌≤◌, ◌+◌, ◌^◌, ◌⊎◌, ℕ, ℤ, pos, negsuc, suc, T, [], ◌∷◌}
+use Rattle.std.proofs.Common.{◌≡◌, arith, sym, subst, inl, inr, Bool, ◌≤◌, ◌+◌, ◌^◌, ℕ, ℤ, pos, negsuc, suc, T, [], ◌∷◌}
 use Rattle.std.proofs.lemmas.Int.{ints}
-use Rattle.exact.specs.Rational.{ℚ, of_int, ratio, one_ℚ, zero_ℚ, ◌≤ℚ◌, ◌<ℚ◌}
+use Rattle.exact.specs.Rational.{ℚ, ratio, zero_ℚ, ◌≤ℚ◌, ◌<ℚ◌}
 use Rattle.exact.proofs.Integers.{ratio_is_product}
 use Rattle.exact.proofs.Intervals.{Inside, coef_le, coef_le_holds}
-use Rattle.exact.proofs.Order.{gap, known, le_by, le_trans, ◌⊕◌}
+use Rattle.exact.proofs.Order.{gap, le_by, le_trans}
 use Rattle.exact.proofs.RationalRing.{Coef, number_of, reads}
 use Rattle.exact.proofs.Strict.{lt_by, positive_known, positive_sum}
 use Rattle.fixed_iv.specs.Extent.{Extent, size}
@@ -26,7 +26,7 @@ use Rattle.sgp4_periodic.specs.Ellipse.{reach_ellipse}
 use Rattle.sgp4_periodic.specs.Guards.{AreAtLeast1, LieAbove0}
 use Rattle.sgp4_periodic.specs.Placed.{reach_at, reach_place}
 use Rattle.sgp4_shape.specs.HeldConsts.{ConstReach}
-use Rattle.sgp4_shape.specs.HeldMean.{IsHeldMean, MeanReach}
+use Rattle.sgp4_shape.specs.HeldMean.{IsHeldMean}
 use Rattle.sgp4_shape.specs.declared.mean.Mean.{Mean}
 use Rattle.fixed_iv.specs.declared.vec3.Vec3.{Vec3}
 use Rattle.orbit_sight.specs.Box.{IsFit, OrbitBox, far_distance}

@@ -1,12 +1,11 @@
 -- The sine and the cosine of the argument of latitude are a pair, nearly: both are at most 1.01 in size. And the sine of a small
 -- angle is small.
-use Rattle.std.proofs.Common.{◌≡◌, ◌∙◌, ap, sym, subst, [], ◌∷◌, ◌-◌, ◌*◌, ◌^◌, pos, negsuc}
-use Rattle.exact.specs.Rational.{ℚ, inverse, ratio, neg_ℚ, one_ℚ, zero_ℚ, ◌+ℚ◌, ◌-ℚ◌, ◌*ℚ◌, ◌/ℚ◌, ◌^ℚ◌, ◌≤ℚ◌}
+use Rattle.std.proofs.Common.{◌≡◌, ◌∙◌, ap, [], ◌∷◌, ◌-◌, ◌*◌, ◌^◌, pos, negsuc}
+use Rattle.exact.specs.Rational.{ℚ, ratio, neg_ℚ, one_ℚ, zero_ℚ, ◌+ℚ◌, ◌-ℚ◌, ◌*ℚ◌, ◌≤ℚ◌}
 use Rattle.exact.proofs.Bounds.{by_sign, square}
 use Rattle.exact.proofs.Intervals.{Inside, between, inside, le_on}
-use Rattle.exact.proofs.Order.{NonNeg, gap, known, le_by, not_negative, ◌⊕◌, ◌⊗◌}
+use Rattle.exact.proofs.Order.{gap, known, le_by, ◌⊕◌, ◌⊗◌}
 use Rattle.exact.proofs.RationalRing.{ring, reads}
-use Rattle.exact.proofs.Strict.{mul_inverse}
 use Rattle.sgp4_model.specs.Angle.{IsNear, IsPi, IsSinCos, part}
 use Rattle.sgp4_model.specs.PairLaws.{IsModest}
 use Rattle.sgp4_model.proofs.Lipschitz.{sine_pairs_are_lipschitz}

@@ -1,5 +1,5 @@
 -- Constants that were lifted from plain enclosures are as narrow as these.
-use Rattle.std.proofs.Common.{true, Bool, T, le_trans as nat_trans}
+use Rattle.std.proofs.Common.{true, Bool, T}
 use Rattle.exact.specs.Rational.{ℚ}
 use Rattle.enc_plain.specs.declared.plain.Plain.{Plain}
 use Rattle.fixed_iv.specs.Extent.{Extent}

@@ -1,5 +1,5 @@
 -- What is known of an orbit within seven days of its epoch, from the ranges of its constants.
-use Rattle.std.proofs.Common.{◌≡◌, ◌∙◌, ap, arith, subst, sym, Bool, true, false, not, T, [], ◌∷◌, ◌<◌, ◌*◌, ◌^◌, ◌-◌, ℕ, ℤ, pos, negsuc, suc, ◌≤ℤ◌, unsigned_abs}
+use Rattle.std.proofs.Common.{◌≡◌, ◌∙◌, arith, subst, sym, Bool, true, false, not, T, [], ◌∷◌, ◌<◌, ◌*◌, ◌^◌, ◌-◌, ℕ, ℤ, pos, negsuc, suc, ◌≤ℤ◌, unsigned_abs}
 use Rattle.std.proofs.lemmas.Int.{ints, by_lt_z}
 use Rattle.exact.specs.Rational.{ℚ, at_least_0, of_int, ratio, neg_ℚ, one_ℚ, zero_ℚ, ◌+ℚ◌, ◌-ℚ◌, ◌*ℚ◌, ◌^ℚ◌, ◌≤ℚ◌, ◌<ℚ◌}
 use Rattle.exact.proofs.Integers.{of_int_is, of_int_le, ratio_is_product}

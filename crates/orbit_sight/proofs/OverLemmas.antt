@@ -1,8 +1,8 @@
 -- The time over a cell from the epoch of a set, enclosed; and what holds of a least cell.
-use Rattle.std.proofs.Common.{◌≡◌, ◌∙◌, ap, arith, sym, subst, refl, Bool, T, [], ◌∷◌, ◌+◌, ◌*◌, ◌<◌, ◌≤◌, ℕ, ℤ, pos, negsuc, ◌+ℤ◌, ◌-ℤ◌, neg_ℤ}
+use Rattle.std.proofs.Common.{◌≡◌, arith, Bool, T, [], ◌∷◌, ◌*◌, ◌≤◌, ℕ, ℤ, pos}
 use Rattle.std.proofs.lemmas.Int.{ints}
 use Rattle.exact.specs.Rational.{ℚ, of_int, ratio, ◌+ℚ◌, ◌-ℚ◌, ◌*ℚ◌, ◌≤ℚ◌}
-use Rattle.exact.proofs.Integers.{of_int_add, of_int_is, of_int_le, of_int_mul, of_int_neg, ratio_is_product}
+use Rattle.exact.proofs.Integers.{of_int_add, of_int_is, of_int_le, of_int_mul}
 use Rattle.exact.proofs.Intervals.{Inside, between, inside}
 use Rattle.exact.proofs.Order.{gap, known, le_by, ◌⊕◌, ◌⊗◌}
 use Rattle.exact.proofs.RationalRing.{ring, reads}
@@ -12,13 +12,13 @@ use Rattle.fixed_iv.specs.Extent.{Extent}
 use Rattle.fixed_iv.specs.Holds.{Holds, IsTightest}
 use Rattle.fixed_iv.specs.Narrow.{IsNarrowConstant, IsNarrowSum}
 use Rattle.fixed_iv.specs.Place.{Place}
-use Rattle.fixed_iv.specs.Reach.{IsHeld, Reach, from_to, given, ◌+ᴿ◌}
+use Rattle.fixed_iv.specs.Reach.{IsHeld, from_to, given, ◌+ᴿ◌}
 use Rattle.fixed_iv.specs.declared.iv.Iv.{Iv}
 use Rattle.fixed_iv.specs.declared.vec3.Vec3.{Vec3}
 use Rattle.fixed_iv.proofs.Held.{Contained, claim_held, constant_held, held_at, plus_held, within}
 use Rattle.sgp4_model.specs.EpochTime.{minutes_since_epoch}
 use Rattle.sgp4_model.specs.Records.{SetRecord}
-use Rattle.sgp4_model.specs.Time.{instant_of_nanos, instant_of_place}
+use Rattle.sgp4_model.specs.Time.{instant_of_place}
 use Rattle.sgp4_model.specs.Vector.{Vector}
 use Rattle.sgp4_periodic.specs.Covered.{IsHeldPosition}
 use Rattle.sgp4_shape.specs.Covering.{unit_minutes}
@@ -67,7 +67,7 @@ module _ {A : Type 0} {C : A → Place → ℚ → Type 0} {E : A → Extent} {t
   cell_time_held epoch start tick a_covers a_narrow r_covers r_narrow tight near cell_near most b_covers b_narrow =
       let shift : IsHeld C E told a h (units_from epoch start) instant_box.time = within instant_box.time (constant_held a_covers a_narrow (time_given v epoch start tight near)) tt in
       let part : IsHeld C E told b h (time_of_place (of_int (pos tick))) (from_to (pos 0) (pos 1) 1 28640) =
-        record { covers = b_covers; known = λ t _. record { inside = part_inside tick most; measured = (b_narrow t).measured; narrow = (b_narrow t).spread } } in
+      record { covers = b_covers; known = λ t _. record { inside = part_inside tick most; measured = (b_narrow t).measured; narrow = (b_narrow t).spread } } in
       within cell_box.time (claim_held (cell_box.time).range (held_at (tick_units epoch start tick) (plus_held law r_covers r_narrow shift part)) cell_near) tt
 
 -- ---- what a position in the box is known to be

@@ -4,14 +4,13 @@ use Rattle.exact.specs.Rational.{ℚ, ◌+ℚ◌, ◌-ℚ◌, ◌*ℚ◌, ◌/�
 use Rattle.exact.proofs.RationalRing.{reads}
 use Rattle.exact.proofs.Order.{◌⊕◌, ◌⊗◌, gap, known, le_by, not_negative}
 use Rattle.exact.proofs.Bounds.{abs_le, abs_not_negative, abs_product, abs_sum, square}
-use Rattle.exact.proofs.Strict.{Positive, positive_known, le_quotient, quotient_le}
 use Rattle.exact.proofs.Intervals.{Inside, between, inside, le_on}
 use Rattle.kepler_enc.specs.Guess.{AreSized}
 use Rattle.sgp4_model.specs.Angle.{IsNear}
 use Rattle.sgp4_model.specs.Numerals.{decimal, whole}
 use Rattle.sgp4_model.specs.Root.{IsSqrt}
 use Rattle.sgp4_model.specs.Wgs72.{j2}
-use Rattle.orbit_sight.proofs.NearOrbitLemmas.{axis, eccentricity, turn, tilt, first, second, product, length, small_product, reciprocal, distance, latitude, ends, on, positive_above, quotient_inside}
+use Rattle.orbit_sight.proofs.NearOrbitLemmas.{axis, eccentricity, turn, tilt, first, second, product, length, small_product, reciprocal, distance, latitude, ends, on, quotient_inside}
 
 -- ---- the eccentricity vector
 -- the long-period correction, from a divisor that is at least 1

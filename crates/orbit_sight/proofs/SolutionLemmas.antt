@@ -1,9 +1,9 @@
 -- A set that is taken has a position at each instant within seven days of its epoch.
 use Rattle.std.proofs.Common.{◌≡◌, subst, true, [], ◌∷◌, ◌*◌, ◌^◌, ◌-◌, ℤ, pos, negsuc, ◌-ℤ◌}
-use Rattle.exact.specs.Rational.{ℚ, abs_ℚ, inverse, ratio, neg_ℚ, one_ℚ, zero_ℚ, ◌+ℚ◌, ◌-ℚ◌, ◌*ℚ◌, ◌/ℚ◌, ◌^ℚ◌, ◌≤ℚ◌, ◌<ℚ◌}
+use Rattle.exact.specs.Rational.{ℚ, abs_ℚ, inverse, ratio, one_ℚ, zero_ℚ, ◌+ℚ◌, ◌-ℚ◌, ◌*ℚ◌, ◌/ℚ◌, ◌^ℚ◌, ◌≤ℚ◌, ◌<ℚ◌}
 use Rattle.exact.proofs.Bounds.{abs_le}
 use Rattle.exact.proofs.Intervals.{Inside, between, inside, le_on}
-use Rattle.exact.proofs.Order.{gap, known, le_by, le_trans, ◌⊕◌, ◌⊗◌}
+use Rattle.exact.proofs.Order.{gap, known, le_by, ◌⊕◌, ◌⊗◌}
 use Rattle.exact.proofs.RationalRing.{ring, reads}
 use Rattle.exact.proofs.Strict.{Positive, le_quotient, lt_by, not_zero, positive_known, positive_product, positive_sum, quotient_le}
 use Rattle.elements.specs.Elements.{ElementsRecord, IsElements, record_of_elements}
@@ -20,8 +20,6 @@ use Rattle.sgp4_model.specs.MeanElements.{IsEccentricityGuarded, IsMeanUnguarded
 use Rattle.sgp4_model.specs.Numerals.{IsDivisor}
 use Rattle.sgp4_model.specs.OrbitRecords.{ConstRecord, MeanRecord}
 use Rattle.sgp4_model.specs.Position.{IsPositionUnguarded, PeriodicRecord}
-use Rattle.sgp4_model.specs.PositionAt.{IsPositionAt}
-use Rattle.sgp4_model.specs.Time.{instant_of_nanos}
 use Rattle.sgp4_model.specs.Vector.{Vector}
 use Rattle.sgp4_model.proofs.MeanExists.{mean_elements_exist}
 use Rattle.sgp4_model.proofs.PositionExists.{position_exists}
@@ -34,8 +32,7 @@ use Rattle.orbit_sight.specs.Craft.{IsCraft, plain_covers, plain_extent}
 use Rattle.orbit_sight.specs.Moment.{units_from}
 use Rattle.orbit_sight.proofs.DayLemmas.{some_pi}
 use Rattle.orbit_sight.proofs.DistanceLemmas.{IsNearOrbit, distance_above, position_in_box}
-use Rattle.orbit_sight.proofs.MomentLemmas.{minutes_are}
-use Rattle.orbit_sight.proofs.OrbitLemmas.{WeekInside, axis_above, bend_small, eccentricity_guarded, near_orbit, week_inside}
+use Rattle.orbit_sight.proofs.OrbitLemmas.{axis_above, bend_small, eccentricity_guarded, near_orbit, week_inside}
 
 -- ---- the eccentricity vector
 abbrev pub divisor : MeanRecord → ℚ

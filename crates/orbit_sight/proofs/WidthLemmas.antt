@@ -1,11 +1,11 @@
 -- How far apart the bounds of a position are, by numerals.
-use Rattle.std.proofs.Common.{◌≡◌, arith, sym, subst, refl, true, ◌≤◌, ◌^◌, ℕ, ℤ, pos, negsuc, [], ◌∷◌, ◌+ℤ◌, ◌-ℤ◌, ◌≤ℤ◌, T}
+use Rattle.std.proofs.Common.{◌≡◌, arith, refl, true, ◌≤◌, ◌^◌, ℕ, ℤ, pos, negsuc, [], ◌∷◌, ◌+ℤ◌, ◌-ℤ◌, ◌≤ℤ◌, T}
 use Rattle.std.proofs.lemmas.Int.{ints}
-use Rattle.exact.specs.Rational.{ℚ, abs_ℚ, of_int, ratio, zero_ℚ, ◌+ℚ◌, ◌-ℚ◌, ◌*ℚ◌, ◌≤ℚ◌}
+use Rattle.exact.specs.Rational.{of_int, ratio, zero_ℚ, ◌+ℚ◌, ◌≤ℚ◌}
 use Rattle.exact.proofs.Bounds.{abs_le}
 use Rattle.exact.proofs.Integers.{le_of_int, of_int_add, of_int_is}
 use Rattle.exact.proofs.Intervals.{between, le_on}
-use Rattle.exact.proofs.Order.{gap, known, le_by, le_trans, ◌⊕◌}
+use Rattle.exact.proofs.Order.{known, le_by, le_trans}
 use Rattle.exact.proofs.RationalRing.{reads}
 use Rattle.elements.specs.Elements.{ElementsRecord}
 use Rattle.enc_plain.specs.declared.plain.Plain.{Plain}

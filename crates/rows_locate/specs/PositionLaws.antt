@@ -16,12 +16,12 @@ use Rattle.sgp4_shape.specs.declared.fault.SatFault.{SatFault}
 abbrev pub IsPositionOf : ElementsRecord → ℤ → Vector → Type 0
 IsPositionOf set at r = IsPositionAt (record_of_elements set) (instant_of_nanos at) r
 
--- bounds hold each coordinate of each position, are at most 32,000 millimetres apart, and come only where there is a position
+-- bounds hold each coordinate of each position, are at most 10,000 millimetres apart, and come only where there is a position
 pub record BoundsHoldPositions : Type 0 where
   pub hold : (set : ElementsRecord) (at : ℤ) (x y z : EdgeRecord) (r : Vector) → IsInside set at x y z → IsPositionOf set at r →
       IsBetween x.low x.high r.x × IsBetween y.low y.high r.y × IsBetween z.low z.high r.z
   pub narrow : (set : ElementsRecord) (at : ℤ) (x y z : EdgeRecord) → IsInside set at x y z →
-      (x.high ≤ℤ (x.low +ℤ pos 32_000)) × (y.high ≤ℤ (y.low +ℤ pos 32_000)) × (z.high ≤ℤ (z.low +ℤ pos 32_000))
+      (x.high ≤ℤ (x.low +ℤ pos 10_000)) × (y.high ≤ℤ (y.low +ℤ pos 10_000)) × (z.high ≤ℤ (z.low +ℤ pos 10_000))
   pub nowhere : (set : ElementsRecord) (at : ℤ) (x y z : EdgeRecord) → ((r : Vector) → ¬ IsPositionOf set at r) → ¬ IsInside set at x y z
 
 -- the satellite that is found is the catalogue's, under its name; it is refused only where it may be, and placed only where it

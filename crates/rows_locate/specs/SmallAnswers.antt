@@ -18,10 +18,10 @@ pub record SmallAnswers : Type 0 where
   pub other_name : (set : Entry) (fault : SatFault) → set.name ≡ codes "A" → ¬ (IsFoundOf (set ∷ []) 5 (pos 7) (refused fault (codes "AB")))
   pub unknown : (sets : List Entry) (number : ℕ) (at : ℤ) (name : List ℕ) → ¬ (IsFoundOf sets number at (unplaced name))
 
--- an Earth radius is 6,378,135,000 millimetres; bounds are at most 32,000 apart
+-- an Earth radius is 6,378,135,000 millimetres; bounds are at most 10,000 apart
 pub record SmallEdges : Type 0 where
   pub radius : IsBetween (pos 6378135000) (pos 6378135000) (of_int (pos 1))
   pub above : ¬ (IsBetween (pos 6378135001) (pos 6378135001) (of_int (pos 1)))
   pub below : ¬ (IsBetween (pos 6378134999) (pos 6378134999) (of_int (pos 1)))
-  pub near : IsNarrowEdge (record { low = pos 5; high = pos 32005 })
-  pub far : ¬ (IsNarrowEdge (record { low = pos 5; high = pos 32006 }))
+  pub near : IsNarrowEdge (record { low = pos 5; high = pos 10005 })
+  pub far : ¬ (IsNarrowEdge (record { low = pos 5; high = pos 10006 }))

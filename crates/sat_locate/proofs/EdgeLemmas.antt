@@ -27,9 +27,9 @@ pub between_edges : {v : Iv} {low high : ℤ} (x : ℚ) → IsBounded v → (low
 between_edges {v} {low} {high} x b l h held = record { low_end = low_end x low v.lo l (held.low b.low); high_end = high_end x high v.hi h (held.high b.high) }
 
 -- 1,410,000,000 units of 2^-48 Earth radii are less than 31,951 millimetres
-pub narrow_edges : (v : Iv) (low high : ℤ) → width_of v ≤ 1410000000 → (v.lo *ℤ pos 6378135000) <ℤ ((low +ℤ pos 1) *ℤ pos 281474976710656) → ((high -ℤ pos 1) *ℤ pos 281474976710656) <ℤ (v.hi *ℤ pos 6378135000) →
-    high ≤ℤ (low +ℤ pos 32000)
+pub narrow_edges : (v : Iv) (low high : ℤ) → width_of v ≤ 439804651 → (v.lo *ℤ pos 6378135000) <ℤ ((low +ℤ pos 1) *ℤ pos 281474976710656) → ((high -ℤ pos 1) *ℤ pos 281474976710656) <ℤ (v.hi *ℤ pos 6378135000) →
+    high ≤ℤ (low +ℤ pos 10000)
 narrow_edges v low high w l h = of_ends (width_of v) v.lo v.hi (width_is v) w l h
   where
-    of_ends : (n : ℕ) (lo hi : ℤ) → pos n ≡ hi -ℤ lo → n ≤ 1410000000 → (lo *ℤ pos 6378135000) <ℤ ((low +ℤ pos 1) *ℤ pos 281474976710656) → ((high -ℤ pos 1) *ℤ pos 281474976710656) <ℤ (hi *ℤ pos 6378135000) → high ≤ℤ (low +ℤ pos 32000)
+    of_ends : (n : ℕ) (lo hi : ℤ) → pos n ≡ hi -ℤ lo → n ≤ 439804651 → (lo *ℤ pos 6378135000) <ℤ ((low +ℤ pos 1) *ℤ pos 281474976710656) → ((high -ℤ pos 1) *ℤ pos 281474976710656) <ℤ (hi *ℤ pos 6378135000) → high ≤ℤ (low +ℤ pos 10000)
     of_ends n lo hi e w l h = omega (arith, ints, e, w, l, h)

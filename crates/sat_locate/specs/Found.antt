@@ -47,9 +47,9 @@ IsWellNamed (unplaced name) = IsName name
 abbrev pub IsInEdge : EdgeRecord → ℚ → Type 0
 IsInEdge edge x = IsBetween edge.low edge.high x
 
--- bounds of a coordinate are at most 32 metres apart
+-- bounds of a coordinate are at most 10 metres apart
 abbrev pub IsNarrowEdge : EdgeRecord → Type 0
-IsNarrowEdge edge = edge.high ≤ℤ (edge.low +ℤ pos 32000)
+IsNarrowEdge edge = edge.high ≤ℤ (edge.low +ℤ pos 10000)
 
 -- the set has a position at the instant, and each coordinate of each position lies between its bounds, which are near each other
 pub record IsInside (set : ElementsRecord) (at : ℤ) (x y z : EdgeRecord) : Type 0 where

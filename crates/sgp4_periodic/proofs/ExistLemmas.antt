@@ -1,5 +1,5 @@
 -- The ellipse exists; and what bounds that meet the guards say of the numbers that they hold.
-use Rattle.std.proofs.Common.{◌≡◌, arith, refl, [], ◌∷◌, ◌+◌, ◌^◌, ◌<◌, ◌≤◌, ◌⊎◌, inl, inr, ℕ, ℤ, pos, ◌≤ℤ◌}
+use Rattle.std.proofs.Common.{◌≡◌, arith, refl, [], ◌∷◌, ◌+◌, ◌^◌, ◌<◌, ◌≤◌, inl, inr, ℕ, pos, ◌≤ℤ◌}
 use Rattle.std.proofs.lemmas.Int.{ints, by_lt_z}
 use Rattle.exact.specs.Rational.{ℚ, of_int, ratio, abs_ℚ, one_ℚ, zero_ℚ, ◌+ℚ◌, ◌-ℚ◌, ◌*ℚ◌, ◌/ℚ◌, ◌^ℚ◌, ◌≤ℚ◌, ◌<ℚ◌}
 use Rattle.exact.proofs.Bounds.{abs_le}

@@ -13,7 +13,7 @@ use Rattle.fixed_iv.proofs.Held.{Contained, minus_held, plus_held, times_held}
 use Rattle.fixed_iv.proofs.OuterLemmas.{both, size_known}
 use Rattle.kepler_enc.specs.Guess.{AreSized}
 use Rattle.kepler_enc.proofs.SizedLemmas.{sizes_known}
-use Rattle.sgp4_model.specs.Angle.{IsNear, IsPi, IsSinCos, part}
+use Rattle.sgp4_model.specs.Angle.{IsPi, IsSinCos, part}
 use Rattle.sgp4_model.proofs.Pythagoras.{squares_add_up_to_one}
 use Rattle.sgp4_periodic.specs.Pairs.{inner_of, most_pair, outer_of, spread_of_pair}
 

@@ -1,5 +1,5 @@
 -- A range that is known by other means holds of what is held.
-use Rattle.std.proofs.Common.{Bool, false, T, pos, zero}
+use Rattle.std.proofs.Common.{Bool, false, T, pos}
 use Rattle.exact.specs.Rational.{ℚ}
 use Rattle.exact.proofs.Intervals.{Inside, Interval}
 use Rattle.fixed_iv.specs.Extent.{Extent}

@@ -1,0 +1,5 @@
+//! Tests of positions over cells of a window.
+#![tactic(auto)]
+
+#[cfg(test)]
+mod cells;
