@@ -17,7 +17,7 @@ use Rattle.orbit_sight.proofs.PeriodicLemmas.{tilt_inside, first_inside, second_
 use Rattle.sgp4_periodic.proofs.PairLemmas.{pair_sized}
 use Rattle.sgp4_periodic.specs.Box.{IsInBox}
 use Rattle.kepler_enc.specs.Guess.{AreSized}
-use Rattle.orbit_sight.proofs.LatitudeLemmas.{both_below, sine_small, squares_below}
+use Rattle.orbit_sight.proofs.LatitudeLemmas.{both_above, both_below, length_above, sine_small, squares_above, squares_below}
 use Rattle.orbit_sight.specs.TakenBoxes.{taken_position}
 
 -- what is known of the constants and mean elements of an orbit whose perigee is at least 300 km high, within seven days of its epoch
@@ -151,21 +151,35 @@ module _ (k : ConstRecord) (m : MeanRecord) (q : PeriodicRecord) (factor pi root
   abbrev sum_with : ℚ → ℚ
   sum_with z = (q.of_root.sine -ℚ q.ay -ℚ q.ax *ℚ z *ℚ over) *ℚ (q.of_root.sine -ℚ q.ay -ℚ q.ax *ℚ z *ℚ over) +ℚ (q.of_root.cosine -ℚ q.ax +ℚ q.ay *ℚ z *ℚ over) *ℚ (q.of_root.cosine -ℚ q.ax +ℚ q.ay *ℚ z *ℚ over)
 
+  -- they take the outer product from its equation, and the inner one too
+  of_products : (P : ℚ → ℚ → Type 0) → P (q.ax *ℚ q.of_root.sine -ℚ q.ay *ℚ q.of_root.cosine) (q.ax *ℚ q.of_root.cosine +ℚ q.ay *ℚ q.of_root.sine) → P q.es q.ec
+  of_products P h = subst (λ z. P z q.ec) (sym position.preliminaries.es_is) (subst (P _) (sym position.preliminaries.ec_is) h)
+
+  of_square : IsNear (part 60) (q.b *ℚ q.b) (one_ℚ -ℚ (q.ax *ℚ q.ax +ℚ q.ay *ℚ q.ay))
+  of_square = subst (λ z. IsNear (part 60) (q.b *ℚ q.b) (one_ℚ -ℚ z)) length_is position.preliminaries.b_is.square
+
+  of_unit_length : Inside (between (pos 0) 1 (pos 1) 1) (q.ax *ℚ q.ax +ℚ q.ay *ℚ q.ay)
+  of_unit_length = inside (pos 0) 1 (pos 1) 1 (le_by (q.ax ∷ q.ay ∷ []) (square q.ax ⊕ square q.ay) (search reads depth 90) tt) (le_on (10 ^ 30) (first ∷ second ∷ []) (q.ax ∷ q.ay ∷ []) (of_first, (of_second, tt)) (search reads depth 90) tt)
+
+  of_unit_outer : Inside (between (negsuc 0) 1 (pos 1) 1) (q.ax *ℚ q.of_root.sine -ℚ q.ay *ℚ q.of_root.cosine)
+  of_unit_outer =
+      subst (Inside (between (negsuc 0) 1 (pos 1) 1)) position.preliminaries.es_is
+      (inside (negsuc 0) 1 (pos 1) 1 (le_on (10 ^ 30) (product ∷ []) (q.es ∷ []) (of_outer, tt) (search reads depth 90) tt) (le_on (10 ^ 30) (product ∷ []) (q.es ∷ []) (of_outer, tt) (search reads depth 90) tt))
+
+  of_root_squares : IsNear (part 58) (q.of_root.sine *ℚ q.of_root.sine +ℚ q.of_root.cosine *ℚ q.of_root.cosine) one_ℚ
+  of_root_squares = squares_add_up_to_one pi root q.of_root.sine q.of_root.cosine is_pi position.kepler.pair
+
   numerators : first_numerator *ℚ first_numerator +ℚ second_numerator *ℚ second_numerator ≤ℚ (one_ℚ -ℚ q.ec) *ℚ (one_ℚ -ℚ q.ec) +ℚ ratio (pos 1) 1000
   unfolding first_numerator second_numerator over
   numerators =
-      subst
-      (λ z. sum_with z ≤ℚ (one_ℚ -ℚ q.ec) *ℚ (one_ℚ -ℚ q.ec) +ℚ ratio (pos 1) 1000)
-      (sym position.preliminaries.es_is)
-      (subst
-      (λ z. sum_with (q.ax *ℚ q.of_root.sine -ℚ q.ay *ℚ q.of_root.cosine) ≤ℚ (one_ℚ -ℚ z) *ℚ (one_ℚ -ℚ z) +ℚ ratio (pos 1) 1000)
-      (sym position.preliminaries.ec_is)
-      (squares_below q.ax q.ay q.of_root.sine q.of_root.cosine q.b over (mul_inverse (one_ℚ +ℚ q.b) position.argument_of_latitude.b_divides) of_over
-      (squares_add_up_to_one pi root q.of_root.sine q.of_root.cosine is_pi position.kepler.pair)
-      (subst (λ z. IsNear (part 60) (q.b *ℚ q.b) (one_ℚ -ℚ z)) length_is position.preliminaries.b_is.square)
-      (inside (pos 0) 1 (pos 1) 1 (le_by (q.ax ∷ q.ay ∷ []) (square q.ax ⊕ square q.ay) (search reads depth 90) tt) (le_on (10 ^ 30) (first ∷ second ∷ []) (q.ax ∷ q.ay ∷ []) (of_first, (of_second, tt)) (search reads depth 90) tt))
-      (subst (Inside (between (negsuc 0) 1 (pos 1) 1)) position.preliminaries.es_is
-      (inside (negsuc 0) 1 (pos 1) 1 (le_on (10 ^ 30) (product ∷ []) (q.es ∷ []) (of_outer, tt) (search reads depth 90) tt) (le_on (10 ^ 30) (product ∷ []) (q.es ∷ []) (of_outer, tt) (search reads depth 90) tt)))))
+      of_products (λ z w. sum_with z ≤ℚ (one_ℚ -ℚ w) *ℚ (one_ℚ -ℚ w) +ℚ ratio (pos 1) 1000)
+      (squares_below q.ax q.ay q.of_root.sine q.of_root.cosine q.b over (mul_inverse (one_ℚ +ℚ q.b) position.argument_of_latitude.b_divides) of_over of_root_squares of_square of_unit_length of_unit_outer)
+
+  numerators_low : (one_ℚ -ℚ q.ec) *ℚ (one_ℚ -ℚ q.ec) ≤ℚ first_numerator *ℚ first_numerator +ℚ second_numerator *ℚ second_numerator +ℚ ratio (pos 1) 100000
+  unfolding first_numerator second_numerator over
+  numerators_low =
+      of_products (λ z w. (one_ℚ -ℚ w) *ℚ (one_ℚ -ℚ w) ≤ℚ sum_with z +ℚ ratio (pos 1) 100000)
+      (squares_above q.ax q.ay q.of_root.sine q.of_root.cosine q.b over (mul_inverse (one_ℚ +ℚ q.b) position.argument_of_latitude.b_divides) of_over of_root_squares of_square of_unit_length of_unit_outer)
 
   -- a quotient by the distance, times the axis, times the distance over the axis
   times_near : (z : ℚ) → m.am /ℚ q.rl *ℚ z *ℚ (one_ℚ -ℚ q.ec) ≡ z
@@ -175,13 +189,19 @@ module _ (k : ConstRecord) (m : MeanRecord) (q : PeriodicRecord) (factor pi root
       ∙ ap (λ t. t *ℚ z) (mul_inverse q.rl position.argument_of_latitude.rl_divides)
       ∙ ring (z ∷ []) (search reads depth 90) tt
 
+  sine_times : q.su *ℚ (one_ℚ -ℚ q.ec) ≡ first_numerator
+  unfolding first_numerator over
+  sine_times = ap (λ t. t *ℚ (one_ℚ -ℚ q.ec)) position.argument_of_latitude.su_is ∙ times_near first_numerator
+
+  cosine_times : q.cu *ℚ (one_ℚ -ℚ q.ec) ≡ second_numerator
+  unfolding second_numerator over
+  cosine_times = ap (λ t. t *ℚ (one_ℚ -ℚ q.ec)) position.argument_of_latitude.cu_is ∙ times_near second_numerator
+
   of_latitudes : Inside latitude q.su × Inside latitude q.cu
-  unfolding first_numerator second_numerator over
-  of_latitudes =
-      both_below q.su q.cu (one_ℚ -ℚ q.ec) first_numerator second_numerator near_square
-      (ap (λ t. t *ℚ (one_ℚ -ℚ q.ec)) position.argument_of_latitude.su_is ∙ times_near first_numerator)
-      (ap (λ t. t *ℚ (one_ℚ -ℚ q.ec)) position.argument_of_latitude.cu_is ∙ times_near second_numerator)
-      numerators
+  of_latitudes = both_below q.su q.cu (one_ℚ -ℚ q.ec) first_numerator second_numerator near_square sine_times cosine_times numerators
+
+  latitudes_above : ratio (pos 99998) 100000 ≤ℚ q.su *ℚ q.su +ℚ q.cu *ℚ q.cu
+  latitudes_above = both_above q.su q.cu (one_ℚ -ℚ q.ec) first_numerator second_numerator near_square sine_times cosine_times numerators_low
 
   of_inclination : Inside turn k.c
   of_inclination =
@@ -213,6 +233,16 @@ module _ (k : ConstRecord) (m : MeanRecord) (q : PeriodicRecord) (factor pi root
       rw (position.short_period.mrt_is, position.argument_of_latitude.c2_is)
       (corrected_above q.rl q.k1 q.k2 q.b k.con41 k.c q.su of_distance of_factor of_second_factor of_square_root (inside (negsuc 1000) 1000 (pos 2001) 1000 orbit.con41_low orbit.con41_high) of_inclination of_latitudes.0)
 
+  -- ---- the position
+  far_away : ratio (pos 1069) 1000 ≤ℚ r.x *ℚ r.x +ℚ r.y *ℚ r.y +ℚ r.z *ℚ r.z
+  far_away =
+      length_above q.mrt q.of_xnode.sine q.of_xnode.cosine q.of_xinc.sine q.of_xinc.cosine q.su q.cu q.of_du.sine q.of_du.cosine q.sw q.cw r.x r.y r.z corrected latitudes_above of_latitudes.0 of_latitudes.1
+      (squares_add_up_to_one pi q.xnode q.of_xnode.sine q.of_xnode.cosine is_pi position.vector.xnode_pair) (squares_add_up_to_one pi q.xinc q.of_xinc.sine q.of_xinc.cosine is_pi position.vector.xinc_pair)
+      (squares_add_up_to_one pi q.du q.of_du.sine q.of_du.cosine is_pi position.corrected_latitude.du_pair)
+      (turn_inside (sine_pairs_are_bounded pi q.xinc q.of_xinc.sine q.of_xinc.cosine is_pi position.vector.xinc_pair).1) in_box.change
+      (turn_inside (sine_pairs_are_bounded pi q.du q.of_du.sine q.of_du.cosine is_pi position.corrected_latitude.du_pair).1)
+      position.corrected_latitude.sw_is position.corrected_latitude.cw_is position.vector.x_is position.vector.y_is position.vector.z_is
+
 -- the distance is at least 1.034 Earth radii
 pub distance_above : (k : ConstRecord) (m : MeanRecord) (q : PeriodicRecord) (factor pi root : ℚ) (r : Vector) → IsPi pi → IsNearOrbit k m factor → IsPositionUnguarded k m q pi root r → ratio (pos 1034) 1000 ≤ℚ q.mrt
 distance_above k m q factor pi root r is_pi orbit position = corrected k m q factor pi root r is_pi orbit position
@@ -220,3 +250,8 @@ distance_above k m q factor pi root r is_pi orbit position = corrected k m q fac
 -- the quantities lie in the box
 pub position_in_box : (k : ConstRecord) (m : MeanRecord) (q : PeriodicRecord) (factor pi root : ℚ) (r : Vector) → IsPi pi → IsNearOrbit k m factor → IsPositionUnguarded k m q pi root r → IsInBox q taken_position
 position_in_box k m q factor pi root r is_pi orbit position = in_box k m q factor pi root r is_pi orbit position
+
+-- the position is at least 1.033 Earth radii from the Earth's centre
+pub position_above : (k : ConstRecord) (m : MeanRecord) (q : PeriodicRecord) (factor pi root : ℚ) (r : Vector) → IsPi pi → IsNearOrbit k m factor → IsPositionUnguarded k m q pi root r →
+    ratio (pos 1069) 1000 ≤ℚ r.x *ℚ r.x +ℚ r.y *ℚ r.y +ℚ r.z *ℚ r.z
+position_above k m q factor pi root r is_pi orbit position = far_away k m q factor pi root r is_pi orbit position

@@ -1,5 +1,5 @@
 -- The time over a cell from the epoch of a set, enclosed; and what holds of a least cell.
-use Rattle.std.proofs.Common.{◌≡◌, arith, Bool, T, [], ◌∷◌, ◌*◌, ◌≤◌, ℕ, ℤ, pos}
+use Rattle.std.proofs.Common.{◌≡◌, arith, Bool, T, [], ◌∷◌, ◌*◌, ◌≤◌, ℕ, ℤ, pos, negsuc, subst, sym}
 use Rattle.std.proofs.lemmas.Int.{ints}
 use Rattle.exact.specs.Rational.{ℚ, of_int, ratio, ◌+ℚ◌, ◌-ℚ◌, ◌*ℚ◌, ◌≤ℚ◌}
 use Rattle.exact.proofs.Integers.{of_int_add, of_int_is, of_int_le, of_int_mul}
@@ -11,7 +11,7 @@ use Rattle.elements.specs.Window.{most_ticks, tick_instant}
 use Rattle.fixed_iv.specs.Extent.{Extent}
 use Rattle.fixed_iv.specs.Holds.{Holds, IsTightest}
 use Rattle.fixed_iv.specs.Narrow.{IsNarrowConstant, IsNarrowSum}
-use Rattle.fixed_iv.specs.Place.{Place}
+use Rattle.fixed_iv.specs.Place.{Place, on_line}
 use Rattle.fixed_iv.specs.Reach.{IsHeld, from_to, given, ◌+ᴿ◌}
 use Rattle.fixed_iv.specs.declared.iv.Iv.{Iv}
 use Rattle.fixed_iv.specs.declared.vec3.Vec3.{Vec3}
@@ -25,11 +25,20 @@ use Rattle.sgp4_shape.specs.Covering.{unit_minutes}
 use Rattle.orbit_sight.specs.Box.{OrbitBox}
 use Rattle.orbit_sight.specs.Cell.{time_of_place}
 use Rattle.orbit_sight.specs.Moment.{units_from}
-use Rattle.orbit_sight.specs.Over.{IsSpreadVector}
+use Rattle.orbit_sight.specs.Over.{IsFarOut, IsSpreadVector}
+use Rattle.orbit_sight.specs.Craft.{IsCraft}
+use Rattle.sgp4_model.specs.MeanElements.{IsMeanUnguarded}
+use Rattle.sgp4_model.specs.PositionAt.{IsPositionAt}
+use Rattle.elements.specs.Elements.{ElementsRecord, record_of_elements}
+use Rattle.enc_plain.specs.declared.plain.Plain.{Plain}
+use Rattle.enc_plain.proofs.PlainHeld.{middle}
+use Rattle.sgp4_shape.specs.declared.consts.Consts.{Consts}
+use Rattle.orbit_sight.proofs.DistanceLemmas.{position_above}
+use Rattle.orbit_sight.proofs.NearOrbitLemmas.{ends}
 use Rattle.orbit_sight.specs.TakenBoxes.{cell_box, instant_box}
 use Rattle.orbit_sight.proofs.GuardLemmas.{box_position}
 use Rattle.orbit_sight.proofs.MomentLemmas.{in_seconds, in_units_of_time}
-use Rattle.orbit_sight.proofs.OrbitLemmas.{WeekInside}
+use Rattle.orbit_sight.proofs.OrbitLemmas.{WeekInside, near_orbit}
 use Rattle.orbit_sight.proofs.WidthLemmas.{time_given}
 
 -- ---- the time of a place of a window, from the epoch
@@ -78,3 +87,30 @@ module _ {A : Type 0} {C : A → Place → ℚ → Type 0} {E : A → Extent} {t
     y = let k = held.y.known is_told ok in record { measured = k.measured; spread = k.narrow };
     z = let k = held.z.known is_told ok in record { measured = k.measured; spread = k.narrow };
   }
+
+-- ---- positions are far out
+between_ends : (h : Place) (l u x y : ℚ) → l ≤ℚ x → x ≤ℚ u → l ≤ℚ y → y ≤ℚ u → (l ≤ℚ on_line h x y) × (on_line h x y ≤ℚ u)
+between_ends h l u x y a b c d = (
+  le_by (l ∷ x ∷ y ∷ h.at ∷ []) (known 1 2 ⊗ (gap h.high ⊗ gap a ⊕ gap h.low ⊗ gap c)) (search reads depth 90) tt,
+  le_by (u ∷ x ∷ y ∷ h.at ∷ []) (known 1 2 ⊗ (gap h.high ⊗ gap b ⊕ gap h.low ⊗ gap d)) (search reads depth 90) tt,
+)
+
+-- between two instants that are near all are
+pub line_near : (h : Place) (epoch start : ℤ) (m n : ℕ) → WeekInside (units_from epoch (tick_instant start m)) → WeekInside (units_from epoch (tick_instant start n)) →
+    WeekInside (units_from epoch start +ℚ time_of_place (on_line h (of_int (pos m)) (of_int (pos n))))
+line_near h epoch start m n first last =
+    let p = ends (negsuc 6152) 10000 (pos 6153) 10000 (subst WeekInside (sym (tick_units epoch start m)) first) in
+    let q = ends (negsuc 6152) 10000 (pos 6153) 10000 (subst WeekInside (sym (tick_units epoch start n)) last) in
+    let z = between_ends h (ratio (negsuc 6152) 10000) (ratio (pos 6153) 10000) _ _ p.0 p.1 q.0 q.1 in
+    subst WeekInside (line_is h (units_from epoch start) (of_int (pos m)) (of_int (pos n))) (inside (negsuc 6152) 10000 (pos 6153) 10000 z.0 z.1)
+  where
+    line_is : (h : Place) (u x y : ℚ) → on_line h (u +ℚ time_of_place x) (u +ℚ time_of_place y) ≡ u +ℚ time_of_place (on_line h x y)
+    line_is h u x y = ring (h.at ∷ u ∷ x ∷ y ∷ []) (search reads depth 90) tt
+
+pub far_out : (set : ElementsRecord) (consts : Consts Plain) (start : ℤ) (place : ℚ) (r : Vector) → IsCraft set consts → WeekInside (units_from set.epoch start +ℚ time_of_place place) →
+    IsPositionAt (record_of_elements set) (instant_of_place start place) r → IsFarOut r
+far_out set consts start place r craft week p =
+    let s = p.mean_is.secular in
+    let mean = subst (λ z. IsMeanUnguarded p.constants z s p.pi p.mean) (sym (minutes_over (record_of_elements set) start place)) p.mean_is.unguarded in
+    let orbit = near_orbit (record_of_elements set) p.pi (units_from set.epoch start +ℚ time_of_place place) p.constants p.mean s consts p.pi_is craft.near_earth p.constants_are (craft.held middle p.pi p.constants p.pi_is p.constants_are) week mean in
+    record { square = position_above p.constants p.mean p.position_is.periodic s.tempa p.pi p.root r p.pi_is orbit p.position_is.unguarded }

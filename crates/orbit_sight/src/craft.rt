@@ -4,7 +4,7 @@ ghost use Rattle.elements.specs.Elements.{record_of_elements};
 ghost use Rattle.elements.specs.Window.{tick_instant};
 ghost use Rattle.exact.specs.Rational.{of_int};
 ghost use Rattle.fixed_iv.specs.Place.{Place, on_line};
-ghost use Rattle.orbit_sight.specs.Over.{IsSpreadVector};
+ghost use Rattle.orbit_sight.specs.Over.{IsFarOut, IsSpreadVector};
 ghost use Rattle.orbit_sight.specs.TakenBoxes.{cell_spread};
 ghost use Rattle.sgp4_model.specs.PositionAt.{IsPositionAt};
 ghost use Rattle.sgp4_model.specs.Time.{instant_of_place};
@@ -86,12 +86,13 @@ impl Craft {
 
 /// The position of a satellite over the closed cell from one tick of a window to another, in Earth radii, in the frame of the
 /// true equator and mean equinox (TEME): at each place of the cell, from -1 at its first tick to 1 at its last, each position of
-/// the set at that instant. An enclosure that tells its spread has an answer on each least cell, and is narrow there.
+/// the set at that instant, which is far out. An enclosure that tells its spread has an answer on each least cell, and is narrow there.
 pub fn over<E: Enc>(craft: &Craft, window: &Window, from: u64, to: u64) -> Option<Vec3<E>>
     requires not_far { ¬ IsFar (record_of_elements craft.now) window.now.start (tick_instant window.now.start window.now.ticks) }
     requires not_empty { from < to }
     requires inside { to ≤ window.now.ticks }
     ensures covers { IfSome result (λ position. (h : Place) (r : Vector) → IsPositionAt (record_of_elements craft.now) (instant_of_place window.now.start (on_line h (of_int (pos from)) (of_int (pos to)))) r → CoversPosition E.covers position h r) }
+    ensures far { (h : Place) (r : Vector) → IsPositionAt (record_of_elements craft.now) (instant_of_place window.now.start (on_line h (of_int (pos from)) (of_int (pos to)))) r → IsFarOut r }
     ensures least { T E.tells → to ≡ from + 1 → MatchOption result ⊥ (IsSpreadVector cell_spread E.extent) }
 {
     position_over(&craft.set, &craft.consts, window.start(), from, to)

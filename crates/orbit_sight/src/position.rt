@@ -5,7 +5,7 @@ ghost use Rattle.elements.specs.Elements.{record_of_elements};
 ghost use Rattle.elements.specs.Window.{most_ticks, tick_instant};
 ghost use Rattle.fixed_iv.specs.Place.{Place, on_line};
 ghost use Rattle.orbit_sight.specs.Craft.{IsCraft};
-ghost use Rattle.orbit_sight.specs.Over.{IsSpreadVector};
+ghost use Rattle.orbit_sight.specs.Over.{IsFarOut, IsSpreadVector};
 ghost use Rattle.orbit_sight.specs.TakenBoxes.{cell_spread};
 ghost use Rattle.sgp4_model.specs.PositionAt.{IsPositionAt};
 ghost use Rattle.sgp4_model.specs.Time.{instant_of_place};
@@ -35,7 +35,9 @@ pub(crate) fn position_over<E: Enc>(
     requires inside { to ≤ most_ticks }
     requires near_start { ¬ IsAway (record_of_elements set.now) start }
     requires near_cell { ¬ IsAway (record_of_elements set.now) (tick_instant start from) }
+    requires near_end { ¬ IsAway (record_of_elements set.now) (tick_instant start to) }
     ensures covers { IfSome result (λ position. (h : Place) (r : Vector) → IsPositionAt (record_of_elements set.now) (instant_of_place start (on_line h (of_int (pos from)) (of_int (pos to)))) r → CoversPosition E.covers position h r) }
+    ensures far { (h : Place) (r : Vector) → IsPositionAt (record_of_elements set.now) (instant_of_place start (on_line h (of_int (pos from)) (of_int (pos to)))) r → IsFarOut r }
     ensures least { T E.tells → to ≡ from + 1 → MatchOption result ⊥ (IsSpreadVector cell_spread E.extent) }
 {
     let shift = E::constant(time_from(set.epoch(), start));

@@ -16,7 +16,7 @@ use Rattle.orbit_sight.proofs.FoundLemmas.{in_cell_box, mean_of, not_out_of_guar
 use Rattle.orbit_sight.proofs.GuardLemmas.{mean_within, position_within}
 use Rattle.orbit_sight.proofs.LiftLemmas.{lifted_held}
 use Rattle.orbit_sight.proofs.OrbitLemmas.{week_inside}
-use Rattle.orbit_sight.proofs.OverLemmas.{cell_time_held, minutes_over, spread_of_position}
+use Rattle.orbit_sight.proofs.OverLemmas.{cell_time_held, far_out, line_near, minutes_over, spread_of_position}
 use Rattle.orbit_sight.proofs.SolutionLemmas.{solution}
 use Rattle.orbit_sight.proofs.TakenBoxesLemmas.{cell_fits}
 use Rattle.orbit_sight.proofs.position.position_over.Goals as goal
@@ -72,3 +72,13 @@ returns-in-None-clause-least g c told least =
     (rw c.epoch.ensures.value at c.time_from.ensures) (week_inside (start -ℤ set.epoch) c.requires.near_start) (week_inside (at -ℤ set.epoch) c.requires.near_cell) (omega (arith, c.requires.not_empty, c.requires.inside))
     (subst (λ z. g.E.Enc.covers c.time_over.result at_start (time_of_place z)) (line_starts _ _) (c.time_over.ensures.along at_start)) (λ t. c.time_over.ensures.narrow t least) in
     not_out_of_guard law told cell_box cell_fits set at c.args.consts.now known_at (in_cell_box set at c.args.consts.now known_at) c.lift-lifted.result consts c.plus-time.result time c.in-None.ensures.none
+
+pub returns-in-Some-clause-far : goal.returns-in-Some-clause-far
+returns-in-Some-clause-far g c h r p =
+    far_out c.args.set.now c.args.consts.now c.args.start (on_line h (of_int (pos c.args.from)) (of_int (pos c.args.to))) r c.requires.craft
+    (line_near h c.args.set.now.epoch c.args.start c.args.from c.args.to (week_inside (tick_instant c.args.start c.args.from -ℤ c.args.set.now.epoch) c.requires.near_cell) (week_inside (tick_instant c.args.start c.args.to -ℤ c.args.set.now.epoch) c.requires.near_end)) p
+
+pub returns-in-None-clause-far : goal.returns-in-None-clause-far
+returns-in-None-clause-far g c h r p =
+    far_out c.args.set.now c.args.consts.now c.args.start (on_line h (of_int (pos c.args.from)) (of_int (pos c.args.to))) r c.requires.craft
+    (line_near h c.args.set.now.epoch c.args.start c.args.from c.args.to (week_inside (tick_instant c.args.start c.args.from -ℤ c.args.set.now.epoch) c.requires.near_cell) (week_inside (tick_instant c.args.start c.args.to -ℤ c.args.set.now.epoch) c.requires.near_end)) p
