@@ -30,6 +30,7 @@ pub mod Root
 pub mod Sidereal
 pub mod RootLaws
 pub mod SolutionLaws
+pub mod Sinking
 pub mod Slope
 pub mod Sun
 pub mod Time
