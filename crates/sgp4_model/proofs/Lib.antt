@@ -42,3 +42,4 @@ mod VectorBounds
 mod PositionLines
 pub mod PositionExists
 pub mod DayExists
+pub mod OffsetLemmas

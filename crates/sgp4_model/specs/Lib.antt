@@ -36,3 +36,14 @@ pub mod Sun
 pub mod Time
 pub mod Vector
 pub mod Wgs72
+pub mod Wgs84
+pub mod StationPlace
+pub mod LocalAxes
+pub mod Offset
+pub mod OffsetDay
+pub mod OffsetLaws
+pub mod Sight
+pub mod Sectors
+pub mod Mask
+pub mod Solution
+pub mod Grazing

@@ -6,6 +6,7 @@ pub mod day_laws;
 pub mod kepler_laws;
 pub mod laws;
 pub mod motion_laws;
+pub mod offset_laws;
 pub mod order_laws;
 pub mod root_laws;
 pub mod solution_laws;
