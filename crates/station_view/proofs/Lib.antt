@@ -1,1 +1,3 @@
 pub mod DegreeLemmas
+mod JudgeLemmas
+mod MaskLemmas

@@ -1,1 +1,4 @@
+pub mod Bounds
+pub mod Judged
+pub mod Masks
 pub mod Spot

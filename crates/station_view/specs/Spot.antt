@@ -18,3 +18,8 @@ pub record EnclosePair (degrees : ℚ) (sines cosines : Iv) : Type 0 where
   pub hold : (pi : ℚ) (pair : Pair) → IsPi pi → IsPairOfDegrees pi degrees pair → Holds sines pair.sine × Holds cosines pair.cosine
   pub narrow_sines : IsNoWider (2 ^ 20) sines
   pub narrow_cosines : IsNoWider (2 ^ 20) cosines
+
+-- The interval holds the sine of each pair of so many degrees, and is no wider than 2^20 units.
+pub record EncloseSine (degrees : ℚ) (sines : Iv) : Type 0 where
+  pub hold : (pi : ℚ) (pair : Pair) → IsPi pi → IsPairOfDegrees pi degrees pair → Holds sines pair.sine
+  pub narrow : IsNoWider (2 ^ 20) sines

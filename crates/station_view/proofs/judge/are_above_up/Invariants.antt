@@ -1,0 +1,8 @@
+use Rattle.std.proofs.Common.{ℕ, ◌<◌, slice_index_or}
+use Rattle.station_view.specs.Judged.{BelowThroughout}
+use Rattle.station_view.specs.declared.sector.EnclosedSector.{EnclosedSector}
+use Rattle.station_view.proofs.judge.are_above_up.Given as goal
+
+-- so it is in each sector so far
+abbrev pub invariant-loop-sector : goal.invariant-loop-sector
+invariant-loop-sector l = (k : ℕ) → k < l.sector-index → (d : EnclosedSector) → BelowThroughout l.sight (slice_index_or l.sectors k d)
