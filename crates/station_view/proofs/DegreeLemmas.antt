@@ -29,7 +29,7 @@ use Rattle.fixed_iv.proofs.WidthLemmas.{tight_bounded, tight_width}
 use Rattle.sgp4_model.specs.Angle.{IsPi, least_pi}
 use Rattle.sgp4_model.specs.Degrees.{radians}
 use Rattle.trig_enc.specs.Enclose.{HoldSinCos, HoldsPi, IsAtMostWider, IsWithinLimits}
-use Rattle.station_view.specs.Spot.{EnclosePair, IsNoWider}
+use Rattle.station_view.specs.Spot.{AreSlim, EnclosePair, IsNoWider}
 
 -- ---- half turns
 crossed : (n : ℤ) (d : ℕ) → n *ℤ pos (d * 180) ≡ (n *ℤ pos 1) *ℤ pos (180 * d)
@@ -126,6 +126,17 @@ pair_enclosed {pies} {half} {angle} {sines} {cosines} {x} range t hp wp bp produ
       narrow_sines = narrow_pair k.measured.bounded narrow ws ls;
       narrow_cosines = narrow_pair k.measured.bounded narrow wc lc;
     }
+
+slim : (a v : Iv) → IsBounded a → width_of a ≤ 16 → IsAtMostWider a v → width_of v ≤ 64
+slim a v b n wider = let w = wider b in omega (arith, ints, w, n, width_is a, width_is v)
+
+pub pair_slim : {pies half angle sines cosines : Iv} {x : ℚ} → IsFromTo full (pos 360) x → IsTightest (λ y. y ≡ x *ℚ ratio (pos 1) 180) half →
+    HoldsPi pies → pies.hi ≡ pies.lo +ℤ pos 1 → IsBounded pies → IsProduct pies half angle →
+    IsAtMostWider angle sines → IsAtMostWider angle cosines → AreSlim sines cosines
+pair_slim {pies} {half} {angle} {sines} {cosines} {x} range t hp wp bp product ws wc =
+    let k = (angle_known {v = pies} {half = half} {angle = angle} least_pi x hp wp bp some_pi range t product).known tt tt in
+    let narrow = nat_trans k.measured.width k.narrow in
+    record { first = slim angle sines k.measured.bounded narrow ws; second = slim angle cosines k.measured.bounded narrow wc }
 
 -- ---- the code's ratio
 -- the digits and the divisor, as the code has them

@@ -1,3 +1,5 @@
 pub mod DegreeLemmas
 mod JudgeLemmas
 mod MaskLemmas
+mod HeightLemmas
+mod PlaceLemmas

@@ -2,3 +2,4 @@ pub mod Bounds
 pub mod Judged
 pub mod Masks
 pub mod Spot
+pub mod PlaceReach

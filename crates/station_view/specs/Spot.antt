@@ -23,3 +23,8 @@ pub record EnclosePair (degrees : ℚ) (sines cosines : Iv) : Type 0 where
 pub record EncloseSine (degrees : ℚ) (sines : Iv) : Type 0 where
   pub hold : (pi : ℚ) (pair : Pair) → IsPi pi → IsPairOfDegrees pi degrees pair → Holds sines pair.sine
   pub narrow : IsNoWider (2 ^ 20) sines
+
+-- two intervals are no wider than 64 units
+pub record AreSlim (a b : Iv) : Type 0 where
+  pub first : width_of a ≤ 64
+  pub second : width_of b ≤ 64

@@ -3,6 +3,7 @@
 
 mod judge;
 mod mask;
+mod place;
 mod sector;
 mod spot;
 mod vector;

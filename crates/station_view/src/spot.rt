@@ -4,7 +4,7 @@ ghost use Rattle.decimals.specs.Decimal.{value};
 ghost use Rattle.elements.specs.Elements.{IsFromTo};
 ghost use Rattle.exact.specs.Rational.{◌*ℚ◌, ratio};
 ghost use Rattle.fixed_iv.specs.Holds.{IsTightest};
-ghost use Rattle.station_view.specs.Spot.{EnclosePair};
+ghost use Rattle.station_view.specs.Spot.{AreSlim, EnclosePair};
 
 use elements::Decimal;
 use fixed_iv::Iv;
@@ -22,6 +22,8 @@ pub struct Spot {
     pub ghost lon_range: { IsFromTo (neg_ℤ (pos 180)) (pos 360) (value lon) },
     pub ghost of_lat: { EnclosePair (value lat) sin_lat cos_lat },
     pub ghost of_lon: { EnclosePair (value lon) sin_lon cos_lon },
+    pub ghost lat_slim: { AreSlim sin_lat cos_lat },
+    pub ghost lon_slim: { AreSlim sin_lon cos_lon },
 }
 
 impl Spot {
@@ -46,9 +48,10 @@ impl Spot {
 }
 
 /// The sine and the cosine of so many degrees, enclosed.
-fn pair_of(degrees: Decimal) -> (Iv, Iv)
+pub(crate) fn pair_of(degrees: Decimal) -> (Iv, Iv)
     requires { IsFromTo (neg_ℤ (pos 360)) (pos 360) (value degrees) }
-    ensures { EnclosePair (value degrees) result.0 result.1 }
+    ensures pair { EnclosePair (value degrees) result.0 result.1 }
+    ensures slim { AreSlim result.0 result.1 }
 {
     trig_enc::sincos(trig_enc::pi() * half_turns(degrees))
 }
