@@ -8,11 +8,13 @@ use Rattle.exact.specs.Rational.{ℚ, glue, ratio, of_int, ◌+ℚ◌, ◌*ℚ�
 use Rattle.exact.proofs.RationalRing.{ring, reads}
 use Rattle.exact.proofs.Order.{le_by, le_trans, le_refl, gap, known, ◌⊕◌, ◌⊗◌}
 use Rattle.exact.proofs.Bounds.{abs_le}
+use Rattle.exact.proofs.Strict.{le_of_lt}
 use Rattle.exact.proofs.Integers.{le_of_int, of_int_le, of_int_add, of_int_is}
 use Rattle.exact.proofs.Intervals.{between, inside}
 use Rattle.decimals.specs.Decimal.{DecimalRecord, IsDecimal, value}
 use Rattle.decimals.proofs.UnitsLemmas.{ten_pow_fits, ten_pow_pos}
 use Rattle.elements.specs.Elements.{IsFromTo}
+use Rattle.station_file.specs.Masks.{IsAzimuth}
 use Rattle.fixed_iv.specs.Ends.{in_units}
 use Rattle.fixed_iv.specs.Extent.{extent_of, width_of}
 use Rattle.fixed_iv.specs.Holds.{Holds, IsBounded, IsTightest}
@@ -56,6 +58,11 @@ lat_within r = between_wider (omega (arith, ints)) (omega (arith, ints)) r
 
 pub lon_within : {x : ℚ} → IsFromTo (neg_ℤ (pos 180)) (pos 360) x → IsFromTo full (pos 360) x
 lon_within r = between_wider (omega (arith, ints)) (omega (arith, ints)) r
+
+pub azimuth_within : {x : ℚ} → IsAzimuth x → IsFromTo full (pos 360) x
+azimuth_within {x} r =
+    let l = rw (of_int_is (pos 0)) at r.least in
+    record { least = rw (of_int_is full) (le_by (x ∷ []) (gap l ⊕ known 360 1) (search reads depth 90) tt); most = le_of_lt r.most }
 
 -- ---- the interval of one number between -2 and 2
 pub one_number : {v : Iv} (x : ℚ) → IsTightest (λ y. y ≡ x) v → ratio (negsuc 1) 1 ≤ℚ x → x ≤ℚ ratio (pos 2) 1 → IsGiven v x (between (negsuc 1) 1 (pos 2) 1) 2
@@ -105,7 +112,7 @@ angle_known {v} {half} {angle} p x hp wp bp pi range t product =
 radians_are : (p x : ℚ) → p *ℚ (x *ℚ ratio (pos 1) 180) ≡ radians p x
 radians_are p x = ring (p ∷ x ∷ []) (search reads depth 90) tt
 
-some_pi : IsPi least_pi
+pub some_pi : IsPi least_pi
 some_pi = record { low = le_refl _; high = le_by [] (known 1 (10 ^ 36)) (search reads depth 90) tt }
 
 narrow_pair : {a v : Iv} → IsBounded a → width_of a ≤ 16 → IsAtMostWider a v → IsWithinLimits v → IsNoWider (2 ^ 20) v

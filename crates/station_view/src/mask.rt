@@ -1,5 +1,8 @@
 //! An elevation mask, with its sines and cosines.
-use crate::sector::EnclosedSector;
+use crate::sector::{EnclosedSector, enclosed_at};
+use elements::OutOfMemory;
+use station_file::MaskRow;
+use std::alloc::Global;
 use std::marker::Model;
 
 /// The sectors of an elevation mask, each of which ends where the next one begins, and the last where the first does,
@@ -22,15 +25,19 @@ impl Model for Mask {
 }
 
 impl Mask {
-    ghost use Rattle.std.specs.Prelude.{◌≡◌};
-    ghost use Rattle.station_view.specs.Masks.{IsEnclosedMask};
+    ghost use Rattle.std.specs.Prelude.{◌≡◌, IfOk, map};
+    ghost use Rattle.station_view.specs.Masks.{IsEnclosedMask, sector_of};
 
-    /// The mask of these sectors.
-    pub(crate) fn of(sectors: Vec<EnclosedSector>) -> Mask
-        requires { IsEnclosedMask sectors.items }
-        ensures { result ≡ sectors.items }
+    /// The mask of a station's row.
+    pub fn fix(alloc: Global, row: &MaskRow) -> Result<Mask, OutOfMemory>
+        ensures { IfOk result (λ mask. map sector_of mask ≡ row.now) }
     {
-        Mask { sectors }
+        let mut sectors = Vec::new(alloc);
+        let count = row.len();
+        for k in 0..count {
+            sectors.push(enclosed_at(row, k))?;
+        }
+        Ok(Mask { sectors })
     }
 
     /// Its sectors, in the order of their borders.
