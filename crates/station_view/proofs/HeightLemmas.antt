@@ -1,35 +1,26 @@
 -- Heights in kilometres, and their intervals.
-use Rattle.std.proofs.Common.{◌≡◌, refl, arith, le_trans as nat_trans, [], ◌∷◌, subst, true, ℕ, ◌^◌, ◌*◌, ◌<◌, ◌≤◌, ℤ, pos, negsuc, neg_ℤ, ◌+ℤ◌, ◌-ℤ◌, ◌*ℤ◌, ◌≤ℤ◌, ◌<ℤ◌, mul-pos, to_z, of_z}
+use Rattle.std.proofs.Common.{◌≡◌, refl, arith, [], ◌∷◌, subst, ℕ, ◌^◌, ◌*◌, ◌<◌, ◌≤◌, ℤ, pos, negsuc, neg_ℤ, ◌+ℤ◌, ◌-ℤ◌, ◌*ℤ◌, ◌≤ℤ◌, ◌<ℤ◌, mul-pos, to_z, of_z}
 use Rattle.std.specs.Int.{w64, w128}
 use Rattle.std.proofs.lemmas.Int.{ints}
 use Rattle.std.proofs.Math.Nat.{suc-pred-eq_of_pos}
 use Rattle.algebra.proofs.IntRing.{ring_ℤ, reads_ℤ}
 use Rattle.exact.specs.Rational.{ℚ, glue, ratio, of_int, ◌+ℚ◌, ◌*ℚ◌, zero_ℚ, ◌≤ℚ◌}
-use Rattle.exact.proofs.RationalRing.{ring, reads}
-use Rattle.exact.proofs.Order.{le_by, le_trans, le_refl, gap, known, ◌⊕◌, ◌⊗◌}
+use Rattle.exact.proofs.RationalRing.{reads}
+use Rattle.exact.proofs.Order.{le_by, gap, known, ◌⊕◌, ◌⊗◌}
 use Rattle.exact.proofs.Bounds.{abs_le}
-use Rattle.exact.proofs.Integers.{le_of_int, of_int_le, of_int_add, of_int_is}
+use Rattle.exact.proofs.Integers.{le_of_int, of_int_add, of_int_is}
 use Rattle.exact.proofs.Intervals.{between, inside}
 use Rattle.decimals.specs.Decimal.{DecimalRecord, IsDecimal, value}
 use Rattle.decimals.proofs.UnitsLemmas.{ten_pow_fits, ten_pow_pos}
 use Rattle.elements.specs.Elements.{IsFromTo}
 use Rattle.fixed_iv.specs.Ends.{in_units}
-use Rattle.fixed_iv.specs.Extent.{extent_of, width_of}
-use Rattle.fixed_iv.specs.Holds.{Holds, IsBounded, IsTightest}
-use Rattle.fixed_iv.specs.Place.{Place}
-use Rattle.fixed_iv.specs.Reach.{Reach, IsGiven, IsHeld, from_to, given, pi_reach, ◌*ᴿ◌}
-use Rattle.fixed_iv.specs.Results.{IsProduct, IsRatio}
+use Rattle.fixed_iv.specs.Extent.{width_of}
+use Rattle.fixed_iv.specs.Holds.{IsTightest}
+use Rattle.fixed_iv.specs.Reach.{IsGiven}
+use Rattle.fixed_iv.specs.Results.{IsRatio}
 use Rattle.fixed_iv.specs.declared.iv.Iv.{Iv}
-use Rattle.fixed_iv.proofs.Held.{constant_held, times_held, within}
-use Rattle.fixed_iv.proofs.HeldGiven.{pi_held}
-use Rattle.fixed_iv.proofs.HeldLemmas.{holds_product}
-use Rattle.fixed_iv.proofs.NarrowLemmas.{constant_narrow, narrow_by, product_narrow}
 use Rattle.fixed_iv.proofs.OuterLemmas.{width_is}
 use Rattle.fixed_iv.proofs.WidthLemmas.{tight_bounded, tight_width}
-use Rattle.sgp4_model.specs.Angle.{IsPi, least_pi}
-use Rattle.sgp4_model.specs.Degrees.{radians}
-use Rattle.trig_enc.specs.Enclose.{HoldSinCos, HoldsPi, IsAtMostWider, IsWithinLimits}
-use Rattle.station_view.specs.Spot.{EnclosePair, IsNoWider}
 
 -- ---- kilometres
 crossed : (n : ℤ) (d : ℕ) → n *ℤ pos (d * 1000) ≡ (n *ℤ pos 1) *ℤ pos (1000 * d)

@@ -1,12 +1,12 @@
 -- What the ends of intervals say of held numbers: apart, of a sign, near.
-use Rattle.std.proofs.Common.{◌≡◌, arith, [], ◌∷◌, subst, ℕ, ◌+◌, ◌^◌, ℤ, pos, negsuc, ◌≤ℤ◌, ◌<ℤ◌, ◌+ℤ◌, ◌-ℤ◌}
+use Rattle.std.proofs.Common.{arith, [], ◌∷◌, subst, ℕ, ◌+◌, ◌^◌, pos, negsuc, ◌≤ℤ◌, ◌<ℤ◌}
 use Rattle.std.proofs.lemmas.Int.{ints}
 use Rattle.exact.specs.Rational.{ℚ, ◌+ℚ◌, ◌-ℚ◌, ◌*ℚ◌, neg_ℚ, of_int, ratio, zero_ℚ, ◌≤ℚ◌, ◌<ℚ◌}
 use Rattle.exact.proofs.RationalRing.{ring, reads}
 use Rattle.exact.proofs.Order.{gap, known, le_by, same_sign, ◌⊕◌, ◌⊗◌}
 use Rattle.exact.proofs.Integers.{of_int_add, of_int_is, of_int_le, ratio_is_product}
-use Rattle.exact.proofs.Strict.{Positive, lt_of_gap, not_both, positive_gap, positive_known, positive_sum}
-use Rattle.fixed_iv.specs.Ends.{in_units, no_high, no_low}
+use Rattle.exact.proofs.Strict.{Positive, lt_of_gap, not_both, positive_known, positive_sum}
+use Rattle.fixed_iv.specs.Ends.{in_units}
 use Rattle.fixed_iv.specs.Extent.{width_of}
 use Rattle.fixed_iv.specs.Holds.{Holds, IsBounded}
 use Rattle.fixed_iv.specs.declared.iv.Iv.{Iv}

@@ -3,3 +3,4 @@ mod JudgeLemmas
 mod MaskLemmas
 mod HeightLemmas
 mod PlaceLemmas
+mod RangeLemmas

@@ -1,6 +1,6 @@
 -- Enclosed masks: the pairs of a solution lie in the enclosures, sector by sector.
 use Rattle.std.specs.Prelude.{⊤}
-use Rattle.std.proofs.Common.{◌≡◌, arith, ap, sym, subst, ℕ, zero, suc, ◌<◌, length, List, [], ◌∷◌, map, inl, inr, All, Any, slice_get, Some, None, MatchOption, unwrap_or, ◌+◌, ◌≤◌, ◌∙◌, refl, ◌++◌, drop}
+use Rattle.std.proofs.Common.{◌≡◌, arith, ap, sym, subst, ℕ, zero, suc, ◌<◌, length, List, [], ◌∷◌, map, inl, inr, All, Any, slice_get, Some, MatchOption, unwrap_or, ◌+◌, ◌≤◌, ◌∙◌, refl, ◌++◌, drop}
 use Rattle.std.proofs.lemmas.List.{append-nil, append_assoc, drop_all, drop_more, map_push}
 use Rattle.std.proofs.lemmas.Option.{get_or_from_slice_get, slice_get_within}
 use Rattle.exact.specs.Rational.{ℚ}
@@ -46,14 +46,16 @@ held_to pi first p [] (q ∷ pairs) is_pi is are ends = absurd are
 held_to pi first p (e ∷ mask) [] is_pi is are ends = absurd are
 held_to pi first p (e ∷ mask) (q ∷ pairs) is_pi is are ends =
     let end : e.end ≡ border_after first (map sector_of mask) = ap (end_in first) ends in
-    let to = subst (λ d. IsPairOfDegrees pi (value d) (end_of p pairs)) (sym end) (next_pair pi first p mask pairs is are.1) in
-    (record {
-      sin_from = (e.from.hold pi q.border is_pi are.0.0).0;
-      cos_from = (e.from.hold pi q.border is_pi are.0.0).1;
-      sin_to = (e.to.hold pi _ is_pi to).0;
-      cos_to = (e.to.hold pi _ is_pi to).1;
-      floor = e.floor.hold pi q.floor is_pi are.0.1;
-    }, held_to pi first p mask pairs is_pi is are.1 (ap rest ends))
+    let to = subst (λ d. IsPairOfDegrees pi (value d) (end_of p pairs)) (sym end) (next_pair pi first p mask pairs is are.1) in (
+      record {
+        sin_from = (e.from.hold pi q.border is_pi are.0.0).0;
+        cos_from = (e.from.hold pi q.border is_pi are.0.0).1;
+        sin_to = (e.to.hold pi _ is_pi to).0;
+        cos_to = (e.to.hold pi _ is_pi to).1;
+        floor = e.floor.hold pi q.floor is_pi are.0.1;
+      },
+      held_to pi first p mask pairs is_pi is are.1 (ap rest ends),
+    )
 
 -- the pairs of a mask lie in its enclosures
 pub mask_held : (pi : ℚ) (mask : List EnclosedSector) (pairs : List SectorPairs) → IsEnclosedMask mask → IsPi pi → AreMaskPairs pi (records_of mask) pairs →

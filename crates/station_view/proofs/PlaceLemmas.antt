@@ -1,6 +1,6 @@
 -- The place of a station: its slim pairs, the number under the root, and its coordinates as the code forms them.
-use Rattle.std.proofs.Common.{◌≡◌, [], ◌∷◌, ◌^◌, ℕ, pos, negsuc, refl, sym, subst}
-use Rattle.exact.specs.Rational.{ℚ, ◌+ℚ◌, ◌-ℚ◌, ◌*ℚ◌, ◌/ℚ◌, ◌^ℚ◌, inverse, neg_ℚ, one_ℚ, ratio, zero_ℚ, ◌≤ℚ◌}
+use Rattle.std.proofs.Common.{◌≡◌, [], ◌∷◌, ℕ, pos, negsuc, refl, sym, subst}
+use Rattle.exact.specs.Rational.{ℚ, ◌+ℚ◌, ◌*ℚ◌, ◌/ℚ◌, ◌^ℚ◌, inverse, neg_ℚ, one_ℚ, ratio, zero_ℚ, ◌≤ℚ◌}
 use Rattle.exact.proofs.RationalRing.{ring, reads}
 use Rattle.exact.proofs.Order.{NonNeg, gap, known, le_by, le_trans, same_sign, ◌⊕◌, ◌⊗◌}
 use Rattle.exact.proofs.Bounds.{square}

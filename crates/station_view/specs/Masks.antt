@@ -1,6 +1,6 @@
 -- What an enclosed mask is: the sectors of an elevation mask, each with the border at which it ends.
 use Rattle.std.specs.Prelude.{◌≡◌, List, [], ◌∷◌, map}
-use Rattle.decimals.specs.Decimal.{DecimalRecord, value}
+use Rattle.decimals.specs.Decimal.{DecimalRecord}
 use Rattle.sgp4_model.specs.Records.{SectorRecord}
 use Rattle.station_file.specs.Masks.{IsMask}
 use Rattle.station_file.specs.Rows.{record_of_sector}

@@ -57,12 +57,12 @@ toward_reach sine cosine r = record {
 abbrev pub range_reach : VectorReach → Interval → Reach
 range_reach toward square = rooted (claimed (inner_reach toward toward) square)
 
--- of the direction of the vector
-abbrev pub sight_reach : VectorReach → Interval → SightReach
-sight_reach toward square = record {
-  east = inner_reach toward axis /ᴿ range_reach toward square;
-  north = inner_reach toward axis /ᴿ range_reach toward square;
-  up = inner_reach toward axis /ᴿ range_reach toward square;
+-- of the direction of a vector, from those of the range
+abbrev pub sight_reach : VectorReach → Reach → SightReach
+sight_reach toward range = record {
+  east = inner_reach toward axis /ᴿ range;
+  north = inner_reach toward axis /ᴿ range;
+  up = inner_reach toward axis /ᴿ range;
 }
 
 -- the bounds lie above 1/4096

@@ -64,8 +64,14 @@ pub(crate) fn place_of<E: Enc>(spot: &Spot, height: Iv) -> Vec3<E>
     let equator = equator_km::<E>().times(stretch(spot));
     let above = E::constant(height);
     let radius = E::constant(Iv::from_ratio(6_378_135, 1000));
-    let level = equator.plus(above).times(E::constant(spot.cos_lat)).divided(radius);
-    let axial = equator.times(axes_squared()).plus(above).times(E::constant(spot.sin_lat));
+    let level = equator
+        .plus(above)
+        .times(E::constant(spot.cos_lat))
+        .divided(radius);
+    let axial = equator
+        .times(axes_squared())
+        .plus(above)
+        .times(E::constant(spot.sin_lat));
     Vec3 {
         x: level.times(E::constant(spot.cos_lon)),
         y: level.times(E::constant(spot.sin_lon)),

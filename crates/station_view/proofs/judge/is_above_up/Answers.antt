@@ -1,4 +1,4 @@
-use Rattle.std.proofs.Common.{arith, IsTrue, ◌<ℤ◌, ◌≤ℤ◌}
+use Rattle.std.proofs.Common.{arith, IsTrue}
 use Rattle.station_view.proofs.JudgeLemmas.{apart, falls_short_by}
 use Rattle.station_view.proofs.judge.is_above_up.Goals as goal
 

@@ -1,5 +1,4 @@
-use Rattle.std.proofs.Common.{◌≡◌, ◌^◌, ◌∙◌, pos, negsuc, sym, subst}
-use Rattle.exact.specs.Rational.{◌/ℚ◌, one_ℚ}
+use Rattle.std.proofs.Common.{◌^◌, ◌∙◌, pos, negsuc, sym, subst}
 use Rattle.fixed_iv.specs.Reach.{IsHeld, from_to, given, ◌+ᴿ◌, ◌*ᴿ◌, ◌/ᴿ◌}
 use Rattle.fixed_iv.proofs.Held.{constant_held, plus_held, times_held, within}
 use Rattle.fixed_iv.proofs.HeldGiven.{ratio_given}

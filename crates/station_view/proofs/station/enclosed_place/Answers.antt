@@ -1,4 +1,3 @@
-use Rattle.std.proofs.Common.{arith, le_trans}
 use Rattle.enc_plain.proofs.PlainHeld.{middle}
 use Rattle.sgp4_model.specs.Angle.{least_pi}
 use Rattle.sgp4_model.specs.StationPlace.{in_km}

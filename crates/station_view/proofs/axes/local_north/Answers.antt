@@ -1,0 +1,21 @@
+use Rattle.std.proofs.Common.{◌^◌, pos, negsuc}
+use Rattle.fixed_iv.specs.Reach.{from_to, given, negative, ◌*ᴿ◌}
+use Rattle.fixed_iv.proofs.Held.{constant_held, negate_held, times_held, within}
+use Rattle.station_view.proofs.PlaceLemmas.{slim_cosine, slim_sine}
+use Rattle.station_view.proofs.axes.local_north.Goals as goal
+
+pub returns : goal.returns
+unfolding given negative ◌*ᴿ◌
+returns g c h p lat lon pi is_lat is_lon =
+    let law = g.met.E.Enc.contained in
+    let spot = c.args.spot.now in
+    let sine = constant_held c.constant.ensures.covers c.constant.ensures.narrow (slim_sine spot.of_lat spot.lat_slim pi is_lat) in
+    let inward = negate_held law c.negate-inward.ensures.covers c.negate-inward.ensures.narrow sine in
+    let cos_lon = constant_held c.constant-2.ensures.covers c.constant-2.ensures.narrow (slim_cosine spot.of_lon spot.lon_slim pi is_lon) in
+    let sin_lon = constant_held c.constant-3.ensures.covers c.constant-3.ensures.narrow (slim_sine spot.of_lon spot.lon_slim pi is_lon) in
+    let cos_lat = constant_held c.constant-4.ensures.covers c.constant-4.ensures.narrow (slim_cosine spot.of_lat spot.lat_slim pi is_lat) in
+    record {
+      x = within (from_to (negsuc 1000) (pos 1001) 1000 (2 ^ 8)) (times_held law c.times.ensures.covers c.times.ensures.narrow inward cos_lon) tt;
+      y = within (from_to (negsuc 1000) (pos 1001) 1000 (2 ^ 8)) (times_held law c.times-2.ensures.covers c.times-2.ensures.narrow inward sin_lon) tt;
+      z = within (from_to (negsuc 1000) (pos 1001) 1000 (2 ^ 8)) cos_lat tt;
+    }
