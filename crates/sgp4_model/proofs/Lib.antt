@@ -43,3 +43,4 @@ mod PositionLines
 pub mod PositionExists
 pub mod DayExists
 pub mod OffsetLemmas
+pub mod SectorLemmas

@@ -47,3 +47,4 @@ pub mod Sectors
 pub mod Mask
 pub mod Solution
 pub mod Grazing
+pub mod MaskLaws

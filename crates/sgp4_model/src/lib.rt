@@ -5,6 +5,7 @@ pub mod certified_laws;
 pub mod day_laws;
 pub mod kepler_laws;
 pub mod laws;
+pub mod mask_laws;
 pub mod motion_laws;
 pub mod offset_laws;
 pub mod order_laws;
