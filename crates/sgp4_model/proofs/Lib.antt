@@ -44,3 +44,5 @@ pub mod PositionExists
 pub mod DayExists
 pub mod OffsetLemmas
 pub mod SectorLemmas
+mod FacingLemmas
+pub mod RoundLemmas

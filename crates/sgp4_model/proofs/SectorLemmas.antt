@@ -1,14 +1,14 @@
 -- Round the borders of a mask the cross products change their sign, and there a sector holds the direction.
-use Rattle.std.proofs.Common.{◌≡◌, [], ◌∷◌, List, ◌⊎◌, inl, inr, ⊎_elim}
-use Rattle.exact.specs.Rational.{ℚ, ◌-ℚ◌, ◌*ℚ◌, neg_ℚ, zero_ℚ, ◌≤ℚ◌, ◌<ℚ◌}
+use Rattle.std.proofs.Common.{[], ◌∷◌, List, inl, inr, ⊎_elim}
+use Rattle.exact.specs.Rational.{ℚ, ◌-ℚ◌, ◌*ℚ◌, zero_ℚ, ◌≤ℚ◌, ◌<ℚ◌}
 use Rattle.exact.proofs.RationalRing.{ring, reads}
-use Rattle.exact.proofs.Order.{NonNeg, gap, le_by, known, same_sign, ◌⊕◌}
+use Rattle.exact.proofs.Order.{gap, le_by, same_sign}
 use Rattle.exact.proofs.Bounds.{le_total}
 use Rattle.exact.proofs.Strict.{le_of_lt, not_both, positive_gap}
 use Rattle.sgp4_model.specs.Angle.{Pair}
-use Rattle.sgp4_model.specs.Mask.{IsAbove, IsBelow, SomeSector}
+use Rattle.sgp4_model.specs.Mask.{SomeSector}
 use Rattle.sgp4_model.specs.MaskLaws.{NoneIsBoth, SomeBorder, SomeSectorHoldsBetween}
-use Rattle.sgp4_model.specs.Sectors.{HoldsDirection, SectorPairs, SectorSides, past, short_of, sides_of, sides_to}
+use Rattle.sgp4_model.specs.Sectors.{HoldsDirection, SectorPairs, past, short_of, sides_to}
 use Rattle.sgp4_model.specs.Sight.{SightRecord}
 
 -- a direction that is not past a border is short of it
