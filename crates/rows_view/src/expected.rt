@@ -6,7 +6,8 @@ pub const STATIONS: usize = 10;
 pub const VIEWS: usize = 5;
 
 /// A file of the stations.
-pub const FILE: &str = "version = 1\n[[station]]\nname = \"0\"\nlat = \"90\"\nlon = \"0\"\nheight = \"0\"\nmask = \"0\"\n[[station]]\nname = \"1\"\nlat = \"-90\"\nlon = \"360\"\nheight = \"-500\"\nmask = \"0\"\n[[station]]\nname = \"2\"\nlat = \"0\"\nlon = \"0\"\nheight = \"0\"\nmask = \"0\"\n[[station]]\nname = \"3\"\nlat = \"0\"\nlon = \"-180\"\nheight = \"9000\"\nmask = \"0\"\n[[station]]\nname = \"4\"\nlat = \"48.1\"\nlon = \"11.3\"\nheight = \"600\"\nmask = \"0\"\n[[station]]\nname = \"5\"\nlat = \"-12.5\"\nlon = \"359.999\"\nheight = \"-4.25\"\nmask = \"0\"\n[[station]]\nname = \"6\"\nlat = \"45\"\nlon = \"270\"\nheight = \"8848.86\"\nmask = \"0\"\n[[station]]\nname = \"7\"\nlat = \"-33.8688\"\nlon = \"151.2093\"\nheight = \"58\"\nmask = \"0\"\n[[station]]\nname = \"8\"\nlat = \"0.000000000000000001\"\nlon = \"90.000000000000001\"\nheight = \"0.001\"\nmask = \"0\"\n[[station]]\nname = \"9\"\nlat = \"78.2232\"\nlon = \"15.6267\"\nheight = \"460\"\nmask = \"0\"\n";
+pub const FILE: &str =
+    "version = 1\n[[station]]\nname = \"0\"\nlat = \"90\"\nlon = \"0\"\nheight = \"0\"\nmask = \"0\"\n[[station]]\nname = \"1\"\nlat = \"-90\"\nlon = \"360\"\nheight = \"-500\"\nmask = \"0\"\n[[station]]\nname = \"2\"\nlat = \"0\"\nlon = \"0\"\nheight = \"0\"\nmask = \"0\"\n[[station]]\nname = \"3\"\nlat = \"0\"\nlon = \"-180\"\nheight = \"9000\"\nmask = \"0\"\n[[station]]\nname = \"4\"\nlat = \"48.1\"\nlon = \"11.3\"\nheight = \"600\"\nmask = \"0\"\n[[station]]\nname = \"5\"\nlat = \"-12.5\"\nlon = \"359.999\"\nheight = \"-4.25\"\nmask = \"0\"\n[[station]]\nname = \"6\"\nlat = \"45\"\nlon = \"270\"\nheight = \"8848.86\"\nmask = \"0\"\n[[station]]\nname = \"7\"\nlat = \"-33.8688\"\nlon = \"151.2093\"\nheight = \"58\"\nmask = \"0\"\n[[station]]\nname = \"8\"\nlat = \"0.000000000000000001\"\nlon = \"90.000000000000001\"\nheight = \"0.001\"\nmask = \"0\"\n[[station]]\nname = \"9\"\nlat = \"78.2232\"\nlon = \"15.6267\"\nheight = \"460\"\nmask = \"0\"\n";
 
 /// The coordinates of each place: numbers of units of 2^-48, rounded down.
 #[rattlefmt::skip]
@@ -89,7 +90,8 @@ static SIGHTS: [i64; 150] = [
 ];
 
 /// A file of stations, each with one of the masks.
-pub const MASKED: &str = "version = 1\n[[station]]\nname = \"0\"\nlat = \"0\"\nlon = \"0\"\nheight = \"0\"\nborders = [\"0\", \"90\", \"180\", \"270\"]\nmasks = [\"10\", \"20\", \"30\", \"40\"]\n[[station]]\nname = \"1\"\nlat = \"0\"\nlon = \"0\"\nheight = \"0\"\nborders = [\"10\", \"99.5\", \"180\", \"270\", \"355\"]\nmasks = [\"1\", \"-90\", \"60\", \"0.5\", \"2\"]\n[[station]]\nname = \"2\"\nlat = \"0\"\nlon = \"0\"\nheight = \"0\"\nborders = [\"0\", \"0.000000000000000001\", \"0.5\", \"90\", \"180\", \"270\"]\nmasks = [\"80\", \"5\", \"10\", \"15\", \"20\", \"25\"]\n";
+pub const MASKED: &str =
+    "version = 1\n[[station]]\nname = \"0\"\nlat = \"0\"\nlon = \"0\"\nheight = \"0\"\nborders = [\"0\", \"90\", \"180\", \"270\"]\nmasks = [\"10\", \"20\", \"30\", \"40\"]\n[[station]]\nname = \"1\"\nlat = \"0\"\nlon = \"0\"\nheight = \"0\"\nborders = [\"10\", \"99.5\", \"180\", \"270\", \"355\"]\nmasks = [\"1\", \"-90\", \"60\", \"0.5\", \"2\"]\n[[station]]\nname = \"2\"\nlat = \"0\"\nlon = \"0\"\nheight = \"0\"\nborders = [\"0\", \"0.000000000000000001\", \"0.5\", \"90\", \"180\", \"270\"]\nmasks = [\"80\", \"5\", \"10\", \"15\", \"20\", \"25\"]\n";
 
 /// Masks, and directions at which they are judged.
 pub const MASKS: usize = 3;

@@ -4,3 +4,4 @@ mod MaskLemmas
 mod HeightLemmas
 mod PlaceLemmas
 mod RangeLemmas
+mod RoundLemmas

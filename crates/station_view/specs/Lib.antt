@@ -6,3 +6,4 @@ pub mod PlaceReach
 pub mod EnclosedPlace
 pub mod SightReach
 pub mod Unseen
+pub mod Complete

@@ -26,11 +26,13 @@ impl Model for Mask {
 
 impl Mask {
     ghost use Rattle.std.specs.Prelude.{◌≡◌, IfOk, map};
+    ghost use Rattle.station_view.specs.Complete.{HoldsEachDirection};
     ghost use Rattle.station_view.specs.Masks.{IsEnclosedMask, sector_of};
 
     /// The mask of a station's row.
     pub fn fix(alloc: Global, row: &MaskRow) -> Result<Mask, OutOfMemory>
-        ensures { IfOk result (λ mask. map sector_of mask ≡ row.now) }
+        ensures sectors { IfOk result (λ mask. map sector_of mask ≡ row.now) }
+        ensures complete { IfOk result (λ mask. HoldsEachDirection mask) }
     {
         let mut sectors = Vec::new(alloc);
         let count = row.len();

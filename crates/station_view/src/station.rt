@@ -3,6 +3,7 @@ ghost use Rattle.std.specs.Prelude.{◌≡◌, IfOk, map, pos, neg_ℤ};
 ghost use Rattle.decimals.specs.Decimal.{value};
 ghost use Rattle.elements.specs.Elements.{IsFromTo};
 ghost use Rattle.station_file.specs.Rows.{IsStationRow};
+ghost use Rattle.station_view.specs.Complete.{HoldsEachDirection};
 ghost use Rattle.station_view.specs.Masks.{sector_of};
 ghost use Rattle.station_view.specs.EnclosedPlace.{EnclosePlace};
 
@@ -35,6 +36,7 @@ impl Station {
         ensures lon { IfOk result (λ station. station.spot.lon ≡ row.now.lon) }
         ensures height { IfOk result (λ station. station.height ≡ row.now.height) }
         ensures mask { IfOk result (λ station. map sector_of station.mask ≡ row.now.mask) }
+        ensures complete { IfOk result (λ station. HoldsEachDirection station.mask) }
     {
         let mask = Mask::fix(alloc, &row.mask)?;
         let spot = Spot::fix(row.lat, row.lon);
