@@ -109,7 +109,7 @@ def quoted(texts):
 def main():
     out = ["//! Expected values, made by tools/stations/expected.py.", ""]
     out += ["/// Stations, and views of each.", f"pub const STATIONS: usize = {len(STATIONS)};", "", f"pub const VIEWS: usize = {len(VIEWS)};", ""]
-    out += ["/// A file of the stations.", "pub const FILE: &str = \"version = 1\\n" + "".join(
+    out += ["/// A file of the stations.", "pub const FILE: &str =\n    \"version = 1\\n" + "".join(
         f"[[station]]\\nname = \\\"{k}\\\"\\nlat = \\\"{a}\\\"\\nlon = \\\"{b}\\\"\\nheight = \\\"{h}\\\"\\nmask = \\\"0\\\"\\n" for k, (a, b, h) in enumerate(STATIONS)) + "\";", ""]
     nums = []
     for s in STATIONS:
@@ -128,7 +128,7 @@ def main():
             sv += [units(v) for v in view(*s, a, r)]
     out += ["/// For each station and each view: east, north and up.", "#[rattlefmt::skip]", f"static SIGHTS: [i64; {len(sv)}] = ["]
     out += ["    " + ", ".join(map(str, sv[i:i + 3])) + "," for i in range(0, len(sv), 3)] + ["];", ""]
-    out += ["/// A file of stations, each with one of the masks.", "pub const MASKED: &str = \"version = 1\\n" + "".join(
+    out += ["/// A file of stations, each with one of the masks.", "pub const MASKED: &str =\n    \"version = 1\\n" + "".join(
         f"[[station]]\\nname = \\\"{k}\\\"\\nlat = \\\"0\\\"\\nlon = \\\"0\\\"\\nheight = \\\"0\\\"\\nborders = [{quoted(b)}]\\nmasks = [{quoted(f)}]\\n" for k, (b, f) in enumerate(MASKS)) + "\";", ""]
     jv = []
     for a, e in JUDGED:
