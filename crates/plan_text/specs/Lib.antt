@@ -1,0 +1,11 @@
+pub mod GridLayout
+pub mod HeadLines
+pub mod Plan
+pub mod PlanLayout
+pub mod RowLines
+pub mod SatLine
+pub mod StationFaults
+pub mod Summary
+pub mod TableLines
+pub mod Timetable
+pub mod TimetableLaw
