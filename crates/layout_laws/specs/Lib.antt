@@ -1,0 +1,4 @@
+pub mod DayLaw
+pub mod LocateLaw
+pub mod PlanLaw
+pub mod ShowLaw

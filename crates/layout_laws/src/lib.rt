@@ -1,0 +1,4 @@
+//! Laws of what is printed: texts lose nothing.
+#![tactic(auto)]
+
+pub mod laws;
