@@ -1,0 +1,142 @@
+-- What the intervals of the parts hold.
+use Rattle.std.proofs.Common.{◌≡◌, arith, subst, [], ◌∷◌, inl, refl, pos, negsuc, ◌≤ℤ◌, ◌<ℤ◌}
+use Rattle.std.proofs.lemmas.Int.{ints}
+use Rattle.exact.specs.Rational.{ℚ, of_int, ratio, ◌+ℚ◌, ◌-ℚ◌, ◌*ℚ◌, neg_ℚ, one_ℚ, zero_ℚ, ◌≤ℚ◌, ◌<ℚ◌}
+use Rattle.exact.proofs.RationalRing.{ring, reads}
+use Rattle.exact.proofs.Order.{NonNeg, gap, known, le_antisym, le_by, le_of_not_negative, le_refl, le_trans, same_sign, ◌⊕◌, ◌⊗◌}
+use Rattle.exact.proofs.Bounds.{square}
+use Rattle.exact.proofs.Integers.{of_int_is, of_int_le}
+use Rattle.exact.proofs.Strict.{lt_by, positive_known, positive_sum}
+use Rattle.sgp4_model.specs.Angle.{IsNear, part}
+use Rattle.fixed_iv.specs.Common.{IsGreater}
+use Rattle.fixed_iv.specs.Ends.{in_units}
+use Rattle.fixed_iv.specs.Holds.{Holds}
+use Rattle.fixed_iv.specs.Place.{Place, on_line}
+use Rattle.fixed_iv.specs.declared.iv.Iv.{Iv}
+use Rattle.fixed_iv.proofs.CommonLemmas.{units_le}
+
+-- ---- between held numbers
+pub between_held : {v : Iv} {x y z : ℚ} → Holds v x → Holds v y → x ≤ℚ z → z ≤ℚ y → Holds v z
+between_held p q f g = record { low = λ s. le_trans (p.low s) (units_le f); high = λ s. le_trans (units_le g) (q.high s) }
+
+-- a mean of two held numbers
+mean_held : {v : Iv} {x y : ℚ} (w : ℚ) → NonNeg w → NonNeg (one_ℚ -ℚ w) → Holds v x → Holds v y → Holds v ((one_ℚ -ℚ w) *ℚ x +ℚ w *ℚ y)
+mean_held {v} {x} {y} w left right p q = record { low = λ s. low (p.low s) (q.low s); high = λ s. high (p.high s) (q.high s) }
+  where
+    low : of_int v.lo ≤ℚ in_units x → of_int v.lo ≤ℚ in_units y → of_int v.lo ≤ℚ in_units ((one_ℚ -ℚ w) *ℚ x +ℚ w *ℚ y)
+    low f g = le_by (of_int v.lo ∷ x ∷ y ∷ w ∷ []) (right ⊗ gap f ⊕ left ⊗ gap g) (search reads depth 90) tt
+
+    high : in_units x ≤ℚ of_int v.hi → in_units y ≤ℚ of_int v.hi → in_units ((one_ℚ -ℚ w) *ℚ x +ℚ w *ℚ y) ≤ℚ of_int v.hi
+    high f g = le_by (of_int v.hi ∷ x ∷ y ∷ w ∷ []) (right ⊗ gap f ⊕ left ⊗ gap g) (search reads depth 90) tt
+
+-- how far along the cell a place is, from 0 to 1
+abbrev weight : Place → ℚ
+weight h = ratio (pos 1) 2 *ℚ (one_ℚ +ℚ h.at)
+
+weight_low : (h : Place) → NonNeg (weight h)
+weight_low h = same_sign (ring (h.at ∷ []) (search reads depth 90) tt) (known 1 2 ⊗ gap h.low)
+
+weight_high : (h : Place) → NonNeg (one_ℚ -ℚ weight h)
+weight_high h = same_sign (ring (h.at ∷ []) (search reads depth 90) tt) (known 1 2 ⊗ gap h.high)
+
+-- on the line between two held numbers
+pub mean_of_ends : {v : Iv} {x y : ℚ} (h : Place) → Holds v x → Holds v y → Holds v (on_line h x y)
+mean_of_ends {v} {x} {y} h p q =
+    subst (Holds v) (ring (h.at ∷ x ∷ y ∷ []) {y = on_line h x y} (search reads depth 90) tt) (mean_held (weight h) (weight_low h) (weight_high h) p q)
+
+-- between a number and its negative
+pub swept_held : {v : Iv} (h : Place) (s : ℚ) → Holds v s → Holds v (neg_ℚ s) → Holds v (h.at *ℚ s)
+swept_held {v} h s p q =
+    subst (Holds v) (ring (h.at ∷ s ∷ []) {y = h.at *ℚ s} (search reads depth 90) tt)
+    (mean_held (weight h) (weight_low h) (weight_high h) q p)
+
+-- 1 less the square of a place
+pub square_below : (h : Place) → NonNeg (one_ℚ -ℚ h.at *ℚ h.at)
+square_below h = same_sign (ring (h.at ∷ []) (search reads depth 90) tt) (gap h.low ⊗ gap h.high)
+
+-- between a number and 0
+pub bent_held : {v : Iv} (h : Place) (x : ℚ) → Holds v x → Holds v zero_ℚ → Holds v (h.at *ℚ h.at *ℚ x)
+bent_held {v} h x p q =
+    subst (Holds v) (ring (h.at ∷ x ∷ []) {y = h.at *ℚ h.at *ℚ x} (search reads depth 90) tt)
+    (mean_held (h.at *ℚ h.at) (square h.at) (square_below h) q p)
+
+-- ---- numerals
+pub half_held : {v : Iv} → v.lo ≡ pos 140737488355328 → v.hi ≡ pos 140737488355328 → Holds v (ratio (pos 1) 2)
+half_held e f = record {
+  low = λ _. rw (e, of_int_is (pos 140737488355328)) (le_by [] (known 0 1) (search reads depth 90) tt);
+  high = λ _. rw (f, of_int_is (pos 140737488355328)) (le_by [] (known 0 1) (search reads depth 90) tt);
+}
+
+pub unit_held : {v : Iv} → v.lo ≡ pos 1 → v.hi ≡ pos 1 → Holds v (ratio (pos 1) 281474976710656)
+unit_held e f = record {
+  low = λ _. rw (e, of_int_is (pos 1)) (le_by [] (known 0 1) (search reads depth 90) tt);
+  high = λ _. rw (f, of_int_is (pos 1)) (le_by [] (known 0 1) (search reads depth 90) tt);
+}
+
+pub tolerance_held : {v : Iv} (e : ℚ) → v.lo ≡ negsuc 0 → v.hi ≡ pos 1 → IsNear (part 59) e zero_ℚ → Holds v e
+tolerance_held x e f n = record {
+  low = λ _. rw (e, of_int_is (negsuc 0)) (le_by (x ∷ []) (known 281474976710656 1 ⊗ gap n.below ⊕ known 2047 2048) (search reads depth 90) tt);
+  high = λ _. rw (f, of_int_is (pos 1)) (le_by (x ∷ []) (known 281474976710656 1 ⊗ gap n.above ⊕ known 2047 2048) (search reads depth 90) tt);
+}
+
+-- ---- squares
+pub square_greater : (x : ℚ) → IsGreater (x *ℚ x) zero_ℚ (x *ℚ x)
+square_greater x = record { not_below_left = le_refl (x *ℚ x); not_below_right = le_of_not_negative (square x); is = inl refl }
+
+-- ---- the rest of a turn
+-- half of the square of the slope, and a unit
+abbrev pub rest_at : ℚ → ℚ
+rest_at s = ratio (pos 1) 2 *ℚ (s *ℚ s) +ℚ ratio (pos 1) 281474976710656
+
+pub ends_ordered : neg_ℚ one_ℚ ≤ℚ one_ℚ
+ends_ordered = le_by [] (known 2 1) (search reads depth 90) tt
+
+abbrev pub first_place : Place
+first_place = record { at = neg_ℚ one_ℚ; low = le_refl (neg_ℚ one_ℚ); high = ends_ordered }
+
+abbrev pub last_place : Place
+last_place = record { at = one_ℚ; low = ends_ordered; high = le_refl one_ℚ }
+
+pub rest_held : {v : Iv} (h : Place) (s e : ℚ) → Holds v (neg_ℚ one_ℚ *ℚ rest_at s) → Holds v (one_ℚ *ℚ rest_at s) →
+    IsNear (ratio (pos 1) 2 *ℚ ((h.at *ℚ s) *ℚ (h.at *ℚ s)) +ℚ part 54) e zero_ℚ → Holds v e
+rest_held h s e p q n =
+    between_held p q
+    (le_by (h.at ∷ s ∷ e ∷ []) (gap n.below ⊕ known 1 2 ⊗ square s ⊗ square_below h ⊕ known 63 18014398509481984) (search reads depth 90) tt)
+    (le_by (h.at ∷ s ∷ e ∷ []) (gap n.above ⊕ known 1 2 ⊗ square s ⊗ square_below h ⊕ known 63 18014398509481984) (search reads depth 90) tt)
+
+-- ---- signs and sizes of held numbers
+pub slow_held : {v : Iv} (h : Place) (s : ℚ) → negsuc 281474976710655 ≤ℤ v.lo → v.hi ≤ℤ pos 281474976710656 → Holds v s → IsNear one_ℚ (h.at *ℚ s) zero_ℚ
+slow_held {v} h s p q k = record {
+  above = le_by (h.at ∷ s ∷ []) (known 1 2 ⊗ (gap h.high ⊗ least ⊕ gap h.low ⊗ most)) (search reads depth 90) tt;
+  below = le_by (h.at ∷ s ∷ []) (known 1 2 ⊗ (gap h.low ⊗ least ⊕ gap h.high ⊗ most)) (search reads depth 90) tt;
+}
+  where
+    low : of_int (negsuc 281474976710655) ≤ℚ in_units s
+    low = le_trans (of_int_le p) (k.low (omega (arith, ints, p)))
+
+    high : in_units s ≤ℚ of_int (pos 281474976710656)
+    high = le_trans (k.high (omega (arith, ints, q))) (of_int_le q)
+
+    least : NonNeg (s +ℚ one_ℚ)
+    least = same_sign (ring (s ∷ []) (search reads depth 90) tt) (known 1 281474976710656 ⊗ gap (rw (of_int_is (negsuc 281474976710655)) at low))
+
+    most : NonNeg (one_ℚ -ℚ s)
+    most = same_sign (ring (s ∷ []) (search reads depth 90) tt) (known 1 281474976710656 ⊗ gap (rw (of_int_is (pos 281474976710656)) at high))
+
+pub positive_held : {v : Iv} {x : ℚ} → pos 0 <ℤ v.lo → Holds v x → zero_ℚ <ℚ x
+positive_held {v} {x} p k =
+    lt_by (x ∷ []) (positive_sum (positive_known 0 281474976710656) (known 1 281474976710656 ⊗ gap (rw (of_int_is (pos 1)) at low))) (search reads depth 90) tt
+  where
+    low : of_int (pos 1) ≤ℚ in_units x
+    low = le_trans (of_int_le (omega (arith, ints, p))) (k.low (omega (arith, ints, p)))
+
+pub zero_held : {v : Iv} {x : ℚ} → v.lo ≡ pos 0 → v.hi ≡ pos 0 → Holds v x → x ≡ zero_ℚ
+zero_held {v} {x} e f k =
+    le_antisym
+    (le_by (x ∷ []) (known 1 281474976710656 ⊗ gap (rw (f, of_int_is (pos 0)) at (k.high (omega (arith, ints, f))))) (search reads depth 90) tt)
+    (le_by (x ∷ []) (known 1 281474976710656 ⊗ gap (rw (e, of_int_is (pos 0)) at (k.low (omega (arith, ints, e))))) (search reads depth 90) tt)
+
+-- where one interval lies above another, so do their numbers
+pub above_held : {a b : Iv} {x m : ℚ} → b.hi ≤ℤ a.lo → Holds a x → Holds b m → m ≤ℚ x
+above_held {a} {b} {x} {m} p k l =
+    le_by (x ∷ m ∷ []) (known 1 281474976710656 ⊗ gap (le_trans (l.high (omega (arith, ints, p, a.low_end.most))) (le_trans (of_int_le p) (k.low (omega (arith, ints, p, b.high_end.least)))))) (search reads depth 90) tt

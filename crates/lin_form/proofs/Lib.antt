@@ -1,0 +1,3 @@
+mod BandLemmas
+mod BetweenLemmas
+mod LinLemmas
