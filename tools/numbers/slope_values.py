@@ -1,0 +1,93 @@
+#!/usr/bin/env python3
+"""Writes crates/rows_lin/src/expected.rt: what quantities that go along lines, and the results of operations on them, are
+at five places of a cell.
+
+Every value is made here from exact fractions, from series and from whole roots, by the meaning of the operations. Run it
+at the top of the repository, python3 tools/numbers/slope_values.py, and then rt fmt in the crate.
+"""
+from fractions import Fraction as F
+from math import floor, isqrt
+
+ONE = 1 << 48
+PARTS = 1 << 56
+PI = F(3141592653589793238462643383279502884, 10**36)
+
+# from, to, and the same of the other quantity, in units of 2^-48
+CASES = [
+    (ONE, ONE + ONE // 1000, 3 * ONE, 3 * ONE - ONE // 500),
+    (ONE // 2, 3 * ONE // 2, 3 * ONE, 2 * ONE),
+    (2 * ONE, 5 * ONE, -4 * ONE, -7 * ONE // 2),
+    (5 * ONE, 5 * ONE - ONE // 3, -ONE, 5 * ONE // 2),
+    (40 * ONE, 40 * ONE + 1, 3 * ONE // 2, 3 * ONE // 2 + 3),
+]
+# the places, in sixths of half of the cell
+SIXTHS = [-6, -3, 0, 2, 6]
+
+
+def sine(x):
+    total, term, n = F(0), x, 1
+    while abs(term) > F(1, 1 << 90):
+        total, term, n = total + term, -term * x * x / ((n + 1) * (n + 2)), n + 2
+    return total
+
+
+def cosine(x):
+    total, term, n = F(0), F(1), 0
+    while abs(term) > F(1, 1 << 90):
+        total, term, n = total + term, -term * x * x / ((n + 1) * (n + 2)), n + 2
+    return total
+
+
+def reduced(x):
+    return x - round(x / (2 * PI)) * 2 * PI
+
+
+def square_root(x):
+    return F(isqrt(floor(x * (1 << 200))), 1 << 100)
+
+
+def cube_root(x):
+    wanted, root = floor(x * (1 << 300)), 0
+    for place in range(110, -1, -1):
+        if (root + (1 << place)) ** 3 <= wanted:
+            root += 1 << place
+    return F(root, 1 << 100)
+
+
+def on_line(start, end, sixths):
+    h = F(sixths, 6)
+    return ((1 - h) * F(start, ONE) + (1 + h) * F(end, ONE)) / 2
+
+
+def values(case, sixths):
+    """Of each method, in the order of the test."""
+    x = on_line(case[0], case[1], sixths)
+    y = on_line(case[2], case[3], sixths)
+    floor_of = F(case[1], ONE)
+    return [
+        F(case[0], ONE), PI, x, x + y, x - y, x * y, x / y, -x, max(x, floor_of),
+        sine(reduced(x)), cosine(reduced(x)), square_root(x), cube_root(x * x),
+    ]
+
+
+def written(value):
+    """In parts of 2^-56, rounded down."""
+    return str(floor(value * PARTS))
+
+
+def main():
+    lines = ["//! Expected values, made by tools/numbers/slope_values.py.", ""]
+    lines += ["/// From where to where a quantity and another go, in units of 2^-48.", f"pub const CASES: [[i64; 4]; {len(CASES)}] = ["]
+    lines += ["    [" + ", ".join(map(str, case)) + "]," for case in CASES]
+    lines += ["];", ""]
+    lines += ["/// Places of a cell, in sixths of half of it from its middle.", f"pub const PLACES: [i64; {len(SIXTHS)}] = [" + ", ".join(map(str, SIXTHS)) + "];", ""]
+    lines += ["/// What each method gives at each place of each case, in parts of 2^-56, rounded down.", f"pub const VALUES: [[i64; 13]; {len(CASES) * len(SIXTHS)}] = ["]
+    for case in CASES:
+        for sixths in SIXTHS:
+            lines += ["    [" + ", ".join(map(written, values(case, sixths))) + "],"]
+    lines += ["];", ""]
+    with open("crates/rows_lin/src/expected.rt", "w") as file:
+        file.write("\n".join(lines))
+
+
+main()
