@@ -1,5 +1,11 @@
+pub mod Contacts
+pub mod Headline
 pub mod Horizon
+pub mod Instants
+pub mod Parts
 pub mod Rows
+pub mod Shadow
 pub mod SmallTrack
+pub mod Sunlight
 pub mod Tilings
 pub mod Tolerances

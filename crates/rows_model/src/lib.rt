@@ -1,8 +1,13 @@
-//! The definitions of certified tracks, of daylight and of tolerances, on small cases.
+//! The definitions of certified tracks, of solutions and of tolerances, on small cases and down to the numbers.
 #![tactic(auto)]
 
+ghost use Rattle.rows_model.specs.Contacts.{CertifiedContactsAreTrue};
+ghost use Rattle.rows_model.specs.Headline.{CertifiedSpansAreTrue};
 ghost use Rattle.rows_model.specs.Horizon.{HorizonRows};
+ghost use Rattle.rows_model.specs.Parts.{ContactsMakeSolutions, PairsMakeADay, PairsMakeASun, PositionsMakeLight, ThreeSectorsGoRound};
 ghost use Rattle.rows_model.specs.Rows.{DecayRows, FullRows, SpanRows, UnresolvedRows};
+ghost use Rattle.rows_model.specs.Shadow.{ShadowRows};
+ghost use Rattle.rows_model.specs.Sunlight.{CertifiedSunlightIsTrue};
 ghost use Rattle.rows_model.specs.Tilings.{SmallNeighbours, SmallTilings, SmallTruths};
 ghost use Rattle.rows_model.specs.Tolerances.{CubeRootRows, ModestRows, PairRows, PiRows, SquareRootRows};
 
@@ -46,6 +51,11 @@ pub fn sides_of_the_horizon()
     ensures { HorizonRows }
 {}
 
+/// Numbers that are sunlit, are dark or graze the shadow, and numbers just past them.
+pub fn sides_of_the_shadow()
+    ensures { ShadowRows }
+{}
+
 /// The ends of the bracket of pi, and numbers just past them.
 pub fn ends_of_the_bracket()
     ensures { PiRows }
@@ -61,4 +71,34 @@ pub fn known_roots()
 pub fn known_pairs()
     ensures pairs { PairRows }
     ensures angles { ModestRows }
+{}
+
+/// In a certified row of daylight each span says of every instant, every pi, all pairs and every Sun what it seems to.
+pub fn certified_spans_are_true()
+    ensures { CertifiedSpansAreTrue }
+{}
+
+/// In a certified row of sunlight each span says of every instant, every pi, all constants, positions and Suns what it
+/// seems to.
+pub fn certified_sunlight_is_true()
+    ensures { CertifiedSunlightIsTrue }
+{}
+
+/// In a certified row of a pair each span says of every instant, every pi, all constants, positions, pairs, places and
+/// ranges what it seems to.
+pub fn certified_contacts_are_true()
+    ensures { CertifiedContactsAreTrue }
+{}
+
+/// Numbers that meet the equations one by one are a direction of the Sun, and solutions.
+pub fn parts_make_solutions()
+    ensures sun { PairsMakeASun }
+    ensures day { PairsMakeADay }
+    ensures light { PositionsMakeLight }
+    ensures contact { ContactsMakeSolutions }
+{}
+
+/// Three sectors of a mask go round the horizon.
+pub fn three_sectors_go_round()
+    ensures { ThreeSectorsGoRound }
 {}

@@ -1,5 +1,5 @@
 -- A day solution of each place and instant.
-use Rattle.std.proofs.Common.{[], refl, pos}
+use Rattle.std.proofs.Common.{[], refl, ℤ, pos}
 use Rattle.exact.specs.Rational.{ℚ, ◌*ℚ◌, ratio}
 use Rattle.exact.proofs.Intervals.{le_on}
 use Rattle.exact.proofs.Order.{le_refl}
@@ -8,7 +8,7 @@ use Rattle.sgp4_model.specs.Angle.{IsPi, Pair, least_pi}
 use Rattle.sgp4_model.specs.DayLaws.{DaySolutionExists}
 use Rattle.sgp4_model.specs.DaySolution.{local_up}
 use Rattle.sgp4_model.specs.Degrees.{IsPairOfDegrees, radians}
-use Rattle.sgp4_model.specs.Sidereal.{IsSiderealPair, earth_fixed, sidereal_angle}
+use Rattle.sgp4_model.specs.Sidereal.{IsSiderealPair, earth_fixed, in_ut1, sidereal_angle}
 use Rattle.sgp4_model.specs.Sun.{IsSun, days, obliquity, sun_longitude, sun_mean_anomaly}
 use Rattle.sgp4_model.specs.Vector.{Vector, inner_product}
 use Rattle.sgp4_model.proofs.OwnPair.{sine_and_cosine_exist}
@@ -23,9 +23,9 @@ pair_of x =
     (record { sine = found.0; cosine = found.1.0 }, found.1.1)
 
 -- a pair of the sidereal angle
-turn_at : (at : ℚ) → (p : Pair) × IsSiderealPair least_pi at p
-turn_at at =
-    let found = sine_and_cosine_exist least_pi (sidereal_angle least_pi at) some_pi in
+turn_at : (at : ℚ) (dut1 : ℤ) → (p : Pair) × IsSiderealPair least_pi at dut1 p
+turn_at at dut1 =
+    let found = sine_and_cosine_exist least_pi (sidereal_angle least_pi (in_ut1 dut1 at)) some_pi in
     (record { sine = found.0; cosine = found.1.0 }, found.1.1)
 
 -- a direction of the Sun
@@ -52,10 +52,10 @@ sun_at at =
     )
 
 pub day_solution_exists : DaySolutionExists
-day_solution_exists lat lon at =
+day_solution_exists lat lon at dut1 =
     let up = pair_of lat in
     let along = pair_of lon in
-    let turn = turn_at at in
+    let turn = turn_at at dut1 in
     let sun = sun_at at in (
       inner_product (local_up up.0 along.0) (earth_fixed turn.0 sun.0),
       record {

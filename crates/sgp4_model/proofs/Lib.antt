@@ -41,6 +41,9 @@ pub mod MeanExists
 mod VectorBounds
 mod PositionLines
 pub mod PositionExists
+pub mod PlaceExists
+pub mod SolutionExists
+pub mod RangeLemmas
 pub mod DayExists
 pub mod OffsetLemmas
 pub mod SectorLemmas

@@ -5,7 +5,7 @@ use Rattle.exact.specs.Rational.{ℚ, ◌+ℚ◌, ◌*ℚ◌, ◌/ℚ◌, ◌^�
 use Rattle.sgp4_model.specs.Density.{DensityRecord}
 use Rattle.sgp4_model.specs.Drag.{DragRecord, near_circle}
 use Rattle.sgp4_model.specs.EpochAngles.{EpochRecord}
-use Rattle.sgp4_model.specs.MeanMotion.{MotionRecord}
+use Rattle.sgp4_model.specs.MeanMotion.{MotionRecord, IsFullMotion, IsSimpleMotion}
 use Rattle.sgp4_model.specs.Numerals.{whole, decimal, IsDivisor}
 use Rattle.sgp4_model.specs.Rates.{RatesRecord}
 use Rattle.sgp4_model.specs.Wgs72.{j2, j3}
@@ -27,11 +27,13 @@ module _ (z : EpochRecord) (m : MotionRecord) (d : DensityRecord) (g : DragRecor
   open r use {w1}
   open f use {omgcof, xmcof, nodecf, t2cof, xlcof, aycof, delmo}
 
-  -- the remaining coefficients
+  -- the remaining coefficients; the drag on perigee and anomaly has none in the simple form
   pub record IsRemainingCoefficients : Type 0 where
-    pub omgcof_is : omgcof ≡ bstar *ℚ c3 *ℚ of_w0.cosine
-    pub e_eta_divides : near_circle <ℚ e → IsDivisor (e *ℚ eta)
-    pub xmcof_is : near_circle <ℚ e → xmcof ≡ neg_ℚ (ratio (pos 2) 3) *ℚ coef *ℚ bstar /ℚ (e *ℚ eta)
+    pub omgcof_is_simple : IsSimpleMotion m → omgcof ≡ zero_ℚ
+    pub omgcof_is : IsFullMotion m → omgcof ≡ bstar *ℚ c3 *ℚ of_w0.cosine
+    pub xmcof_is_simple : IsSimpleMotion m → xmcof ≡ zero_ℚ
+    pub e_eta_divides : IsFullMotion m → near_circle <ℚ e → IsDivisor (e *ℚ eta)
+    pub xmcof_is : IsFullMotion m → near_circle <ℚ e → xmcof ≡ neg_ℚ (ratio (pos 2) 3) *ℚ coef *ℚ bstar /ℚ (e *ℚ eta)
     pub xmcof_is_else : e ≤ℚ near_circle → xmcof ≡ zero_ℚ
     pub nodecf_is : nodecf ≡ decimal 35 1 *ℚ bb *ℚ (neg_ℚ w1 *ℚ c) *ℚ c1
     pub t2cof_is : t2cof ≡ decimal 15 1 *ℚ c1

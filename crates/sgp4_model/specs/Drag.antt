@@ -3,7 +3,7 @@
 use Rattle.std.specs.Prelude.{◌≡◌}
 use Rattle.exact.specs.Rational.{ℚ, ◌+ℚ◌, ◌-ℚ◌, ◌*ℚ◌, ◌/ℚ◌, ◌^ℚ◌, neg_ℚ, zero_ℚ, one_ℚ, ◌≤ℚ◌, ◌<ℚ◌}
 use Rattle.sgp4_model.specs.Density.{DensityRecord}
-use Rattle.sgp4_model.specs.MeanMotion.{MotionRecord}
+use Rattle.sgp4_model.specs.MeanMotion.{MotionRecord, IsFullMotion, IsSimpleMotion}
 use Rattle.sgp4_model.specs.Numerals.{whole, decimal, IsDivisor}
 use Rattle.sgp4_model.specs.Wgs72.{j2, j3}
 
@@ -57,9 +57,11 @@ module _ (m : MotionRecord) (d : DensityRecord) (g : DragRecord) where
         )
         )
 
-  -- C5, of the periodic drag on the eccentricity
+  -- C5, of the periodic drag on the eccentricity; there is none in the simple form
   pub record IsPeriodicEccentricityDragCoefficient : Type 0 where
+    pub c5_is_simple : IsSimpleMotion m → c5 ≡ zero_ℚ
     pub c5_is :
+        IsFullMotion m →
         c5 ≡
         whole 2 *ℚ coef1 *ℚ a *ℚ bb
         *ℚ (one_ℚ +ℚ decimal 275 2 *ℚ (eta ^ℚ 2 +ℚ e *ℚ eta) +ℚ e *ℚ eta *ℚ eta ^ℚ 2)

@@ -39,12 +39,14 @@ pub mod Wgs72
 pub mod Wgs84
 pub mod StationPlace
 pub mod LocalAxes
-pub mod Offset
-pub mod OffsetDay
+pub mod EachSolution
 pub mod OffsetLaws
 pub mod Sight
 pub mod Sectors
 pub mod Mask
 pub mod Solution
+pub mod Simple
 pub mod Grazing
+pub mod Light
+pub mod LitSolution
 pub mod MaskLaws

@@ -69,8 +69,10 @@ pub record IsEccentricityGuarded (ecc : ℚ) : Type 0 where
   pub low : neg_ℚ (decimal 1 3) ≤ℚ ecc
   pub high : ecc <ℚ one_ℚ
 
--- the mean elements of the constants k at t minutes from the epoch, with a guard on the eccentricity before it is raised
+-- the mean elements of the constants k at t minutes from the epoch, with guards on the eccentricity before it is raised, and
+-- on the semimajor axis: at least an Earth radius
 pub record IsMean (k : ConstRecord) (pi t : ℚ) (m : MeanRecord) : Type 0 where
   pub secular : SecularRecord
   pub unguarded : IsMeanUnguarded k t secular pi m
   pub guarded : IsEccentricityGuarded secular.ecc
+  pub axis_guarded : one_ℚ ≤ℚ m.am

@@ -1,7 +1,7 @@
 -- Recovery of the mean motion and the semimajor axis from an element set, with the period and the perigee (Spacetrack
 -- Report No. 3, 1980, SGP4; AIAA 2006-6753, appendix). Lengths are in Earth radii, times in minutes, angles in radians.
 use Rattle.std.specs.Prelude.{◌≡◌, pos}
-use Rattle.exact.specs.Rational.{ℚ, ◌+ℚ◌, ◌-ℚ◌, ◌*ℚ◌, ◌/ℚ◌, ◌^ℚ◌, ratio, one_ℚ}
+use Rattle.exact.specs.Rational.{ℚ, ◌+ℚ◌, ◌-ℚ◌, ◌*ℚ◌, ◌/ℚ◌, ◌^ℚ◌, ratio, one_ℚ, ◌≤ℚ◌, ◌<ℚ◌}
 use Rattle.sgp4_model.specs.Angle.{IsSinCos}
 use Rattle.sgp4_model.specs.Degrees.{radians}
 use Rattle.sgp4_model.specs.Numerals.{whole, decimal, IsDivisor}
@@ -73,3 +73,11 @@ period_of pi m = whole 2 *ℚ pi /ℚ m.n0
 -- the perigee in kilometres over the equatorial radius
 abbrev pub perigee_of : MotionRecord → ℚ
 perigee_of m = (m.rp -ℚ one_ℚ) *ℚ earth_radius_km
+
+-- the perigee is below 220 km: the equations take their simple form
+abbrev pub IsSimpleMotion : MotionRecord → Type 0
+IsSimpleMotion m = perigee_of m <ℚ whole 220
+
+-- the perigee is at least 220 km: they take their full form
+abbrev pub IsFullMotion : MotionRecord → Type 0
+IsFullMotion m = whole 220 ≤ℚ perigee_of m

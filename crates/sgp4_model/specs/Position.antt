@@ -114,9 +114,12 @@ module _ (k : ConstRecord) (m : MeanRecord) (q : PeriodicRecord) where
     pub corrected_latitude : IsCorrectedLatitude pi
     pub vector : IsTemeVector pi r
 
--- the position of the constants k and the mean elements m at Kepler's root, with a guard on the distance: at least the
--- Earth's radius
+-- the least distance that is taken, in Earth radii: 1.02
+abbrev pub least_distance : ℚ
+least_distance = decimal 102 2
+
+-- the position of the constants k and the mean elements m at Kepler's root, with a guard on the distance
 pub record IsPosition (k : ConstRecord) (m : MeanRecord) (pi root : ℚ) (r : Vector) : Type 0 where
   pub periodic : PeriodicRecord
   pub unguarded : IsPositionUnguarded k m periodic pi root r
-  pub guarded : one_ℚ ≤ℚ periodic.mrt
+  pub guarded : least_distance ≤ℚ periodic.mrt

@@ -12,9 +12,10 @@ use Rattle.sgp4_model.specs.Sectors.{AreMaskPairs, SectorPairs, SectorSides, sid
 use Rattle.sgp4_model.specs.Sight.{IsSight, SightRecord}
 use Rattle.sgp4_model.specs.Vector.{Vector}
 
--- what a solution is judged by: its constants, the direction to the satellite, and the sectors of the mask
+-- what a solution is judged by: its constants, the range and the direction of the satellite, and the sectors of the mask
 pub record SolutionRecord : Type 0 where
   pub constants : ConstRecord
+  pub range : ℚ
   pub sight : SightRecord
   pub sectors : List SectorSides
 
@@ -30,6 +31,6 @@ pub record IsSolution (set : SetRecord) (row : StationRecord) (at : ℚ) (dut1 :
   pub are_constants : IsConsts set pi s.constants
   pub is_mean : IsMean s.constants pi (minutes_since_epoch set at) mean
   pub is_position : IsPosition s.constants mean pi root position
-  pub is_sight : IsSight row pi at dut1 position s.sight
+  pub is_sight : IsSight row pi at dut1 position s.range s.sight
   pub are_pairs : AreMaskPairs pi row.sectors pairs
   pub sectors_are : s.sectors ≡ sides_of pairs
