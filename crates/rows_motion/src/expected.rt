@@ -163,7 +163,7 @@ pub const RECOVERED: [(Given, [[i64; 2]; 14]); 8] = [
 ];
 
 /// What is given, and the fault, if the set is refused.
-pub const FATES: [(Given, Option<SatFault>); 30] = [
+pub const FATES: [(Given, Option<SatFault>); 36] = [
     (
         (b"10", b"0.2000001", b"34", b"0"),
         Some(SatFault::Eccentric),
@@ -209,4 +209,10 @@ pub const FATES: [(Given, Option<SatFault>); 30] = [
     ((b"6.39964235", b"0.1", b"60", b"0"), Some(SatFault::Deep)),
     ((b"6.40296242", b"0.2", b"175", b"0"), None),
     ((b"6.40296162", b"0.2", b"175", b"0"), Some(SatFault::Deep)),
+    ((b"16.22301886", b"0", b"0", b"0"), Some(SatFault::Low)),
+    ((b"16.22301926", b"0", b"0", b"0"), Some(SatFault::Low)),
+    ((b"16.22301966", b"0", b"0", b"0"), Some(SatFault::Low)),
+    ((b"13.82824896", b"0.1", b"60", b"0"), Some(SatFault::Low)),
+    ((b"13.82824936", b"0.1", b"60", b"0"), Some(SatFault::Low)),
+    ((b"13.82824976", b"0.1", b"60", b"0"), Some(SatFault::Low)),
 ];

@@ -47,7 +47,10 @@ fn recovered_motions_hold_the_values_from_outside(rt: HostRuntime) {
     for row in RECOVERED.iter() {
         match set_of(&row.0) {
             Some(set) => match recover_motion::<Plain>(&set) {
-                Ok(motion) => assert!(rt; all_hold(&motion, &row.1), "the values are enclosed"),
+                Ok(motion) => {
+                    assert!(rt; all_hold(&motion, &row.1), "the values are enclosed");
+                    assert!(rt; !motion.simple, "the perigee is at least 220 km");
+                }
                 Err(_) => assert!(rt; false, "the set is accepted"),
             },
             None => assert!(rt; false, "the numbers are in their ranges"),

@@ -1,10 +1,10 @@
 -- A period and a perigee against their limits, by the bounds.
 use Rattle.std.proofs.Common.{◌≡◌, arith, [], ◌∷◌, ap, ◌∙◌, ◌^◌, ◌*◌, ◌≤◌, ℕ, ℤ, pos, ◌+ℤ◌, ◌-ℤ◌, ◌≤ℤ◌, ◌<ℤ◌}
 use Rattle.std.proofs.lemmas.Int.{ints, by_lt_z}
-use Rattle.exact.specs.Rational.{ℚ, ratio, inverse, of_int, ◌+ℚ◌, ◌*ℚ◌, ◌/ℚ◌, zero_ℚ, one_ℚ, ◌≤ℚ◌, ◌<ℚ◌}
+use Rattle.exact.specs.Rational.{ℚ, ratio, inverse, of_int, ◌+ℚ◌, ◌-ℚ◌, ◌*ℚ◌, ◌/ℚ◌, zero_ℚ, one_ℚ, ◌≤ℚ◌, ◌<ℚ◌}
 use Rattle.exact.proofs.RationalRing.{ring, reads}
 use Rattle.exact.proofs.Order.{le_by, le_trans, gap, known, ◌⊕◌, ◌⊗◌}
-use Rattle.exact.proofs.Integers.{of_int_add, of_int_is, of_int_le}
+use Rattle.exact.proofs.Integers.{of_int_add, of_int_is, of_int_le, of_int_mul}
 use Rattle.exact.proofs.Strict.{lt_by, mul_inverse, positive_known, positive_sum}
 use Rattle.fixed_iv.specs.Ends.{in_units, no_high, no_low}
 use Rattle.fixed_iv.specs.Extent.{Extent, width_of}
@@ -15,6 +15,8 @@ use Rattle.fixed_iv.proofs.OuterLemmas.{width_is}
 use Rattle.exact.proofs.Intervals.{Interval}
 use Rattle.sgp4_model.specs.Numerals.{decimal, whole}
 use Rattle.sgp4_shape.specs.Covering.{unit_minutes}
+use Rattle.sgp4_motion.specs.Fate.{low_perigee_km}
+use Rattle.sgp4_motion.specs.declared.limits.TheConstants.{LEAST_PERIGEE_KM}
 use Rattle.sgp4_motion.proofs.InputLemmas.{inverse_is}
 
 -- ---- a number from the bounds that hold it
@@ -42,6 +44,15 @@ at_most_low {e} {x} {i} {w} n k h l =
     from_width : (lo hi : ℤ) (v s : ℕ) → pos v ≡ hi -ℤ lo → v ≤ s → s ≤ w → lo ≤ℤ n → hi ≤ℤ (n +ℤ pos w)
     from_width lo hi v s p q r l = omega (arith, ints, p, q, r, l)
 
+-- a number is above the one that the upper end is above, less the spread
+above_by_width : {e : Extent} {x : ℚ} {i : Interval} {w : ℕ} (n : ℤ) → IsKnown e x i w → Holds e.ends x → n ≤ℤ e.ends.hi → of_int n ≤ℚ in_units x +ℚ of_int (pos w)
+above_by_width {e} {x} {i} {w} n k h l =
+    let f = of_int_le (from_width e.ends.lo e.ends.hi (width_of e.ends) e.spread (width_is e.ends) k.measured.width k.narrow l) in
+    le_by (x ∷ of_int n ∷ of_int e.ends.lo ∷ of_int (pos w) ∷ []) (gap (rw of_int_add at f) ⊕ gap (h.low k.measured.bounded.low)) (search reads depth 90) tt
+  where
+    from_width : (lo hi : ℤ) (v s : ℕ) → pos v ≡ hi -ℤ lo → v ≤ s → s ≤ w → n ≤ℤ hi → n ≤ℤ (lo +ℤ pos w)
+    from_width lo hi v s p q r l = omega (arith, ints, p, q, r, l)
+
 -- ---- the period
 pub period_is : (pi n0 : ℚ) → ¬ (n0 ≡ zero_ℚ) → ¬ (unit_minutes 1 *ℚ n0 ≡ zero_ℚ) → whole 16384 *ℚ (whole 2 *ℚ pi /ℚ (unit_minutes 1 *ℚ n0)) ≡ whole 2 *ℚ pi /ℚ n0
 period_is pi n0 h k =
@@ -61,13 +72,51 @@ period_from {e} x k h f =
     let l = rw (of_int_is (pos 3865470566396)) at (at_least_high (pos 3865470566400) k h (by_lt_z e.ends.hi (pos 3865470566400) (λ t. absurd (f t)) (λ t. t))) in
     le_by (x ∷ []) (known 1 17179869184 ⊗ gap l ⊕ known 536870787 536870912000) (search reads depth 90) tt
 
--- ---- the perigee
-pub perigee_from : {v : Iv} (x : ℚ) → Holds v x → pos (300 * 2 ^ 48) ≤ℤ v.lo → whole 300 ≤ℚ x
-perigee_from {v} x h k =
-    let e = rw (of_int_is (pos 84442493013196800)) at (at_least_low (pos 84442493013196800) h k (omega (arith, ints))) in
-    le_by (x ∷ []) (known 1 281474976710656 ⊗ gap e) (search reads depth 90) tt
+-- ---- the perigee, against a limit of n kilometres
+abbrev limit : ℕ → ℤ
+limit n = pos (n * 2 ^ 48)
 
-pub perigee_below : {e : Extent} {i : Interval} (x : ℚ) → IsKnown e x i (2 ^ 20) → Holds e.ends x → ¬ (pos (300 * 2 ^ 48) ≤ℤ e.ends.lo) → x <ℚ decimal 300001 3
-perigee_below {e} x k h f =
-    let l = rw (of_int_is (pos 84442493014245375)) at (at_most_low (pos 84442493013196799) k h (by_lt_z e.ends.lo (pos 84442493013196800) (λ t. omega (arith, ints, t)) (λ t. absurd (f t)))) in
-    lt_by (x ∷ []) (positive_sum (positive_known 35184241016956 35184372088832000) (known 1 281474976710656 ⊗ gap l)) (search reads depth 90) tt
+limit_is : (n : ℕ) → of_int (limit n) ≡ whole n *ℚ whole 281474976710656
+limit_is n =
+    of_int_mul (pos n) (pos 281474976710656)
+    ∙ ap (λ t. t *ℚ of_int (pos 281474976710656)) (of_int_is (pos n))
+    ∙ ap (λ t. whole n *ℚ t) (of_int_is (pos 281474976710656))
+
+from_units : (y x : ℚ) → y *ℚ whole 281474976710656 ≤ℚ in_units x → y ≤ℚ x
+from_units y x h = le_by (y ∷ x ∷ []) (known 1 281474976710656 ⊗ gap h) (search reads depth 90) tt
+
+below_units : (y x : ℚ) → in_units x +ℚ one_ℚ ≤ℚ y *ℚ whole 281474976710656 → x <ℚ y
+below_units y x h = lt_by (y ∷ x ∷ []) (positive_sum (positive_known 0 281474976710656) (known 1 281474976710656 ⊗ gap h)) (search reads depth 90) tt
+
+from_next : (y x : ℚ) → y *ℚ whole 281474976710656 ≤ℚ in_units x +ℚ whole 1048576 → y -ℚ decimal 1 3 ≤ℚ x
+from_next y x h = le_by (y ∷ x ∷ []) (known 268434456 268435456000 ⊕ known 1 281474976710656 ⊗ gap h) (search reads depth 90) tt
+
+below_next : (y x : ℚ) → in_units x ≤ℚ y *ℚ whole 281474976710656 +ℚ whole 1048576 → x <ℚ y +ℚ decimal 1 3
+below_next y x h = lt_by (y ∷ x ∷ []) (positive_sum (positive_known 268434455 268435456000) (known 1 281474976710656 ⊗ gap h)) (search reads depth 90) tt
+
+-- by the ends of the bounds
+pub perigee_from : {v : Iv} (n : ℕ) (x : ℚ) → Holds v x → limit n ≤ℤ v.lo → whole n ≤ℚ x
+perigee_from {v} n x h k = from_units (whole n) x (rw (limit_is n) at (at_least_low (limit n) h k (omega (arith, ints))))
+
+pub perigee_under : {v : Iv} (n : ℕ) (x : ℚ) → n ≤ 32767 → Holds v x → v.hi <ℤ limit n → x <ℚ whole n
+perigee_under {v} n x l h k = below_units (whole n) x (rw (limit_is n) at (at_most_high (limit n) h k (omega (arith, ints, l))))
+
+-- by the other ends, where the spread is known
+pub perigee_next_above : {e : Extent} {i : Interval} (n : ℕ) (x : ℚ) → IsKnown e x i (2 ^ 20) → Holds e.ends x → limit n ≤ℤ e.ends.hi → whole n -ℚ decimal 1 3 ≤ℚ x
+perigee_next_above n x k h l = from_next (whole n) x (rw (limit_is n, of_int_is (pos 1048576)) at (above_by_width (limit n) k h l))
+
+pub perigee_next_below : {e : Extent} {i : Interval} (n : ℕ) (x : ℚ) → IsKnown e x i (2 ^ 20) → Holds e.ends x → e.ends.lo <ℤ limit n → x <ℚ whole n +ℚ decimal 1 3
+perigee_next_below n x k h l = below_next (whole n) x (rw (of_int_add, limit_is n, of_int_is (pos 1048576)) at (at_most_low (limit n) k h (omega (arith, ints, l))))
+
+pub below_limit : (n : ℕ) {lo : ℤ} → ¬ (limit n ≤ℤ lo) → lo <ℤ limit n
+below_limit n {lo} f = by_lt_z lo (limit n) (λ t. t) (λ t. absurd (f t))
+
+-- a metre on either side of the limits
+pub least_and_a_metre : whole LEAST_PERIGEE_KM +ℚ decimal 1 3 ≡ low_perigee_km
+least_and_a_metre = ring [] (search reads depth 90) tt
+
+pub edge_and_a_metre : whole 220 +ℚ decimal 1 3 ≡ decimal 220001 3
+edge_and_a_metre = ring [] (search reads depth 90) tt
+
+pub edge_less_a_metre : whole 220 -ℚ decimal 1 3 ≡ decimal 219999 3
+edge_less_a_metre = ring [] (search reads depth 90) tt

@@ -1,13 +1,13 @@
 -- Where the recovered motion of a near-Earth set lies.
-use Rattle.std.proofs.Common.{◌≡◌, [], ◌∷◌, ap, ◌∙◌, ◌^◌, ◌*◌, T, Bool, pos}
+use Rattle.std.proofs.Common.{◌≡◌, [], ◌∷◌, ap, ◌∙◌, ◌^◌, ◌*◌, ◌%◌, T, Bool, pos}
 use Rattle.exact.specs.Rational.{ℚ, ratio, inverse, ◌-ℚ◌, ◌*ℚ◌, ◌/ℚ◌, zero_ℚ, one_ℚ, ◌≤ℚ◌, ◌<ℚ◌}
 use Rattle.exact.proofs.RationalRing.{ring, reads}
 use Rattle.exact.proofs.Order.{NonNeg, le_by, le_of_gap, le_trans, same_sign, gap, known, ◌⊕◌, ◌⊗◌}
 use Rattle.exact.proofs.Bounds.{by_sign, square}
 use Rattle.exact.proofs.Intervals.{Inside, inside}
 use Rattle.exact.proofs.Strict.{Positive, le_of_lt, mul_inverse, not_zero, positive_known, positive_weak, quotient_le}
-use Rattle.fixed_iv.specs.Extent.{Extent}
 use Rattle.fixed_iv.specs.Place.{Place}
+use Rattle.fixed_iv.specs.declared.enc.Enc.{Ghosts}
 use Rattle.fixed_iv.proofs.Held.{claim_held, within}
 use Rattle.sgp4_model.specs.Angle.{IsPi}
 use Rattle.sgp4_model.specs.MeanMotion.{MotionRecord, IsMotionRecovered, RecoversMotion}
@@ -17,8 +17,9 @@ use Rattle.sgp4_model.specs.Root.{IsCbrt2}
 use Rattle.sgp4_model.specs.Wgs72.{ke, earth_radius_km}
 use Rattle.sgp4_shape.specs.Covering.{unit_minutes}
 use Rattle.sgp4_motion.specs.Fate.{IsNearEarth}
+use Rattle.sgp4_motion.specs.declared.limits.TheConstants.{LEAST_PERIGEE_KM}
 use Rattle.sgp4_motion.specs.declared.recovered.Recovered.{Recovered}
-use Rattle.sgp4_motion.specs.HeldMotion.{IsHeldMotion, reach_motion, reach_recovered}
+use Rattle.sgp4_motion.specs.HeldMotion.{IsHeldMotion, MotionReach, least_radius, reach_motion, reach_recovered}
 use Rattle.sgp4_motion.proofs.InputLemmas.{positive_from}
 
 -- a quotient's bound bounds the dividend
@@ -69,8 +70,8 @@ axis_below : {n0 a : ℚ} → Positive n0 → ratio (pos 4575) 10 ≤ℚ unit_mi
 axis_below {n0} p h root = root_below (quotient_le p (le_by (n0 ∷ []) (known 26633 163840000 ⊗ gap h ⊕ known 10061443 5120000000000) (search reads depth 90) tt)) root
 
 -- ---- the perigee from below, and the mean motion from above
-radius_above : {rp : ℚ} → whole 300 ≤ℚ (rp -ℚ one_ℚ) *ℚ earth_radius_km → ratio (pos 104703) 100000 ≤ℚ rp
-radius_above {rp} h = le_by (rp ∷ []) (known 1000 6378135 ⊗ gap h ⊕ known 242073 42520900000) (search reads depth 90) tt
+radius_above : {rp : ℚ} → whole LEAST_PERIGEE_KM ≤ℚ (rp -ℚ one_ℚ) *ℚ earth_radius_km → ratio (pos (least_radius 100000)) 100000 ≤ℚ rp
+radius_above {rp} h = le_by (rp ∷ []) (known 1000 6378135 ⊗ gap h ⊕ known (100000 * LEAST_PERIGEE_KM * 1000 % 6378135) (100000 * 6378135)) (search reads depth 90) tt
 
 -- the range of a semimajor axis and that of its power do not meet
 root_apart : {x a y : ℚ} → x ≤ℚ ratio (pos 10707) 10000 → ratio (pos 104703) 100000 ≤ℚ a → IsCbrt2 x a → NonNeg y → y ≤ℚ zero_ℚ
@@ -100,8 +101,8 @@ module _ {a e bb p rp : ℚ} (root : zero_ℚ <ℚ a) (low : zero_ℚ ≤ℚ e) 
   radius_rectum = rw (rp_is, p_is, bb_is) (le_by (a ∷ e ∷ []) (gap (le_of_lt root) ⊗ gap low ⊗ (gap high ⊕ known 8 10)) (search reads depth 90) tt)
 
 -- ---- the numerals of a near-Earth set
-pub near_earth_held : {A : Type 0} {C : A → Place → ℚ → Type 0} {E : A → Extent} {told : Bool} {motion : Recovered A} {h : Place} {m : MotionRecord} (set : SetRecord) (pi : ℚ) →
-    T told → IsPi pi → IsMotionRecovered set pi m → IsNearEarth set → IsHeldMotion {A = A} C E told motion h m reach_recovered → IsHeldMotion C E told motion h m reach_motion
+pub near_earth_held : {A : Type 0} {E : Ghosts A} {motion : Recovered A} {h : Place} {m : MotionRecord} (set : SetRecord) (pi : ℚ) →
+    T E.tells → IsPi pi → IsMotionRecovered set pi m → IsNearEarth set → IsHeldMotion {A = A} E motion h m reach_recovered → IsHeldMotion E motion h m reach_motion
 near_earth_held {m = m} set pi told is_pi recovered near k =
     record {
       i = k.i;
@@ -109,11 +110,11 @@ near_earth_held {m = m} set pi told is_pi recovered near k =
       si = k.si;
       e = k.e;
       n0 = within reach_motion.n0 (claim_held _ k.n0 (inside (pos 4575) 10 (pos 11380) 10 n0_least n0_most)) tt;
-      a = within reach_motion.a (claim_held _ k.a (inside (pos 104703) 100000 (pos 19214) 10000 (le_trans rp_least (radius_axis root low high lines.bb_is lines.p_is lines.rp_is)) a_most)) tt;
+      a = within reach_motion.a (claim_held _ k.a (inside (pos (least_radius 100000)) 100000 (pos 19214) 10000 (le_trans rp_least (radius_axis root low high lines.bb_is lines.p_is lines.rp_is)) a_most)) tt;
       bb = k.bb;
       b0 = k.b0;
-      p = within reach_motion.p (claim_held _ k.p (inside (pos 104703) 100000 (pos 19214) 10000 (le_trans rp_least (radius_rectum root low high lines.bb_is lines.p_is lines.rp_is)) (le_trans (rectum_axis root low high lines.bb_is lines.p_is lines.rp_is) a_most))) tt;
-      rp = within reach_motion.rp (claim_held _ k.rp (inside (pos 104703) 100000 (pos 19214) 10000 rp_least (le_trans (radius_axis root low high lines.bb_is lines.p_is lines.rp_is) a_most))) tt;
+      p = within reach_motion.p (claim_held _ k.p (inside (pos (least_radius 100000)) 100000 (pos 19214) 10000 (le_trans rp_least (radius_rectum root low high lines.bb_is lines.p_is lines.rp_is)) (le_trans (rectum_axis root low high lines.bb_is lines.p_is lines.rp_is) a_most))) tt;
+      rp = within reach_motion.rp (claim_held _ k.rp (inside (pos (least_radius 100000)) 100000 (pos 19214) 10000 rp_least (le_trans (radius_axis root low high lines.bb_is lines.p_is lines.rp_is) a_most))) tt;
       con41 = k.con41;
       con42 = k.con42;
     }
@@ -139,8 +140,26 @@ near_earth_held {m = m} set pi told is_pi recovered near k =
     a_most : m.a ≤ℚ ratio (pos 19214) 10000
     a_most = axis_below positive n0_least lines.a_is
 
-    rp_least : ratio (pos 104703) 100000 ≤ℚ m.rp
+    rp_least : ratio (pos (least_radius 100000)) 100000 ≤ℚ m.rp
     rp_least = radius_above (near.perigee pi m is_pi recovered)
 
     n0_most : unit_minutes 1 *ℚ m.n0 ≤ℚ ratio (pos 11380) 10
     n0_most = n0_below positive (le_trans rp_least (radius_axis root low high lines.bb_is lines.p_is lines.rp_is)) lines.a_is
+
+-- the numerals say nothing of the form
+pub in_a_form : {A : Type 0} {E : Ghosts A} {simple : Bool} {motion : Recovered A} {h : Place} {m : MotionRecord} {r : MotionReach} →
+    IsHeldMotion {A = A} E motion h m r → IsHeldMotion E (record motion { simple = simple }) h m r
+in_a_form k = record {
+  i = k.i;
+  c = k.c;
+  si = k.si;
+  e = k.e;
+  n0 = k.n0;
+  a = k.a;
+  bb = k.bb;
+  b0 = k.b0;
+  p = k.p;
+  rp = k.rp;
+  con41 = k.con41;
+  con42 = k.con42;
+}

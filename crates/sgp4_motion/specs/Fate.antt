@@ -1,12 +1,13 @@
 -- Which element sets may be refused, and which may be accepted: the limits of near-Earth orbits as this program takes them.
-use Rattle.std.specs.Prelude.{◌<◌, ◌⊎◌, ◌↔◌, ◌^◌, ◌*◌, ℤ, ◌-ℤ◌, unsigned_abs}
+use Rattle.std.specs.Prelude.{◌<◌, ◌+◌, ◌⊎◌, ◌↔◌, ◌^◌, ◌*◌, ℤ, ◌-ℤ◌, unsigned_abs}
 use Rattle.exact.specs.Rational.{ℚ, abs_ℚ, ◌≤ℚ◌, ◌<ℚ◌}
 use Rattle.sgp4_model.specs.Angle.{IsPi}
-use Rattle.sgp4_model.specs.MeanMotion.{MotionRecord, IsMotionRecovered, period_of, perigee_of}
+use Rattle.sgp4_model.specs.MeanMotion.{MotionRecord, IsMotionRecovered, IsFullMotion, IsSimpleMotion, period_of, perigee_of}
 use Rattle.sgp4_model.specs.Numerals.{whole, decimal}
 use Rattle.sgp4_model.specs.Records.{SetRecord}
 use Rattle.sgp4_shape.specs.declared.fault.SatFault.{SatFault}
-use Rattle.sgp4_shape.specs.declared.fault.SatFault.TheVariants.{Eccentric, Inclined, Drag, Deep, Low, Far}
+use Rattle.sgp4_shape.specs.declared.fault.SatFault.TheVariants.{Eccentric, Inclined, Drag, Deep, Low, Edge, Far}
+use Rattle.sgp4_motion.specs.declared.limits.TheConstants.{LEAST_PERIGEE_KM}
 
 -- the eccentricity is above 0.2
 abbrev pub IsEccentric : SetRecord → Type 0
@@ -55,20 +56,50 @@ pub record HasPerigeeBelow (km : ℚ) (set : SetRecord) : Type 0 where
   pub recovered : IsMotionRecovered set pi motion
   pub below : perigee_of motion <ℚ km
 
--- each recovered motion of the set has a period below 225 minutes and a perigee of at least 300 km
+-- some recovered motion of the set has a perigee from so many kilometres to so many
+pub record HasPerigeeBetween (least most : ℚ) (set : SetRecord) : Type 0 where
+  pub pi : ℚ
+  pub motion : MotionRecord
+  pub is_pi : IsPi pi
+  pub recovered : IsMotionRecovered set pi motion
+  pub at_least : least ≤ℚ perigee_of motion
+  pub at_most : perigee_of motion ≤ℚ most
+
+-- each recovered motion of the set has a period below 225 minutes and a perigee of at least the least accepted one
 pub record IsNearEarth (set : SetRecord) : Type 0 where
   pub period : (pi : ℚ) (motion : MotionRecord) → IsPi pi → IsMotionRecovered set pi motion → period_of pi motion <ℚ whole 225
-  pub perigee : (pi : ℚ) (motion : MotionRecord) → IsPi pi → IsMotionRecovered set pi motion → whole 300 ≤ℚ perigee_of motion
+  pub perigee : (pi : ℚ) (motion : MotionRecord) → IsPi pi → IsMotionRecovered set pi motion → whole LEAST_PERIGEE_KM ≤ℚ perigee_of motion
+
+-- each recovered motion of the set is simple
+abbrev pub IsSimpleSet : SetRecord → Type 0
+IsSimpleSet set = (pi : ℚ) (motion : MotionRecord) → IsPi pi → IsMotionRecovered set pi motion → IsSimpleMotion motion
+
+-- each one is full
+abbrev pub IsFullSet : SetRecord → Type 0
+IsFullSet set = (pi : ℚ) (motion : MotionRecord) → IsPi pi → IsMotionRecovered set pi motion → IsFullMotion motion
+
+-- either each one is simple, or each one is full
+abbrev pub IsOfOneForm : SetRecord → Type 0
+IsOfOneForm set = IsSimpleSet set ⊎ IsFullSet set
 
 -- the set is ordinary, and at most 6.3 revolutions a day are given, or some period is of at least 224.999 minutes
 pub record MayBeDeep (set : SetRecord) : Type 0 where
   pub ordinary : IsOrdinary set
   pub slow : (set.motion ≤ℚ decimal 63 1) ⊎ HasPeriodFrom (decimal 224999 3) set
 
--- the set is ordinary, and at least 17 revolutions a day are given, or some perigee is of less than 300.001 km
+-- the least accepted perigee and a metre, in kilometres
+abbrev pub low_perigee_km : ℚ
+low_perigee_km = decimal (LEAST_PERIGEE_KM * 1000 + 1) 3
+
+-- the set is ordinary, and at least 17 revolutions a day are given, or some perigee is below the least one and a metre
 pub record MayBeLow (set : SetRecord) : Type 0 where
   pub ordinary : IsOrdinary set
-  pub fast : (whole 17 ≤ℚ set.motion) ⊎ HasPerigeeBelow (decimal 300001 3) set
+  pub fast : (whole 17 ≤ℚ set.motion) ⊎ HasPerigeeBelow low_perigee_km set
+
+-- the set is ordinary, and some perigee is from 219.999 to 220.001 km: next to 220 km, where the form changes
+pub record MayBeEdge (set : SetRecord) : Type 0 where
+  pub ordinary : IsOrdinary set
+  pub near : HasPerigeeBetween (decimal 219999 3) (decimal 220001 3) set
 
 -- the set, at whatever instants, may be refused for this fault
 abbrev pub MayRefuseSet : SetRecord → SatFault → Type 0
@@ -77,6 +108,7 @@ MayRefuseSet set Inclined = ¬ IsEccentric set × IsInclined set
 MayRefuseSet set Drag = (¬ IsEccentric set × ¬ IsInclined set) × IsDragged set
 MayRefuseSet set Deep = MayBeDeep set
 MayRefuseSet set Low = MayBeLow set
+MayRefuseSet set Edge = MayBeEdge set
 MayRefuseSet set Far = ⊥
 
 -- what is told exactly, where `refuses` says for which fault the set is refused: the first three faults, and that an instant
@@ -94,11 +126,13 @@ MayRefuse set first last Inclined = MayRefuseSet set Inclined
 MayRefuse set first last Drag = MayRefuseSet set Drag
 MayRefuse set first last Deep = MayRefuseSet set Deep
 MayRefuse set first last Low = MayRefuseSet set Low
-MayRefuse set first last Far = ((IsOrdinary set × IsBetweenLimits set) × IsNearEarth set) × IsFar set first last
+MayRefuse set first last Edge = MayRefuseSet set Edge
+MayRefuse set first last Far = (((IsOrdinary set × IsBetweenLimits set) × IsNearEarth set) × IsOfOneForm set) × IsFar set first last
 
 -- the set may be accepted from the first instant to the last
 pub record MayAccept (set : SetRecord) (first last : ℤ) : Type 0 where
   pub ordinary : IsOrdinary set
   pub between : IsBetweenLimits set
   pub near_earth : IsNearEarth set
+  pub of_one_form : IsOfOneForm set
   pub not_far : ¬ IsFar set first last

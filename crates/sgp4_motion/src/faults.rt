@@ -1,5 +1,5 @@
 //! The faults that given numbers show.
-ghost use Rattle.std.specs.Prelude.{◌↔◌, IfNone, IfSome, IsTrue};
+ghost use Rattle.std.specs.Prelude.{◌≡◌, ◌↔◌, IfNone, IfSome, IsTrue};
 ghost use Rattle.decimals.specs.Decimal.{value};
 ghost use Rattle.elements.specs.Elements.{IsElements, record_of_elements};
 ghost use Rattle.exact.specs.Rational.{◌<ℚ◌, abs_ℚ};
@@ -12,6 +12,7 @@ use sgp4_shape::SatFault;
 /// The fault that the given numbers show by themselves. Else the mean motion is between 6.3 and 17 revolutions a day.
 pub(crate) fn shown_fault(set: &Elements) -> Option<SatFault>
     ensures some { IfSome result (MayRefuseSet (record_of_elements set.now)) }
+    ensures no_edge { ¬ (result ≡ Some SatFault.Edge) }
     ensures elements { IsElements set.now }
     ensures ordinary { IfNone result (IsOrdinary (record_of_elements set.now)) }
     ensures between { IfNone result (IsBetweenLimits (record_of_elements set.now)) }

@@ -27,4 +27,6 @@ pub struct Recovered<E> {
     pub con41: E,
     /// 1 - 5 c^2.
     pub con42: E,
+    /// Whether the perigee is below 220 km, where the equations take their simple form.
+    pub simple: bool,
 }

@@ -9,7 +9,7 @@ use crate::lines::{con41, con42, corrected_axis, effect_at, oblateness, one_less
 use elements::Elements;
 use fixed_iv::{Enc, Iv};
 
-/// The recovered motion, where the mean motion is between 6.3 and 17 revolutions a day.
+/// The recovered motion, where the mean motion is between 6.3 and 17 revolutions a day. Its form is not told yet.
 pub(crate) fn recovered<E: Enc>(set: &Elements) -> Recovered<E>
     requires ordinary { IsOrdinary (record_of_elements set.now) }
     requires between { IsBetweenLimits (record_of_elements set.now) }
@@ -46,5 +46,6 @@ pub(crate) fn recovered<E: Enc>(set: &Elements) -> Recovered<E>
         rp,
         con41,
         con42,
+        simple: false,
     }
 }

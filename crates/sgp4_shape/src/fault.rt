@@ -11,8 +11,10 @@ pub enum SatFault {
     Drag,
     /// The period may be 225 minutes or more.
     Deep,
-    /// The perigee may be less than 300 km high.
+    /// The perigee may be lower than the least accepted one, 300 km.
     Low,
+    /// The perigee is too near 220 km, where the equations change their form, to tell which holds.
+    Edge,
     /// An instant lies more than seven days from the epoch.
     Far,
 }
