@@ -24,18 +24,23 @@ const SLOW: &[u8] = b"2 90001   0.0000   0.0000 0010000   0.0000   0.0000  6.000
 
 const FAST: &[u8] = b"2 90001   0.0000   0.0000 0010000   0.0000   0.0000 17.00000000    12";
 
+/// With a perigee of 220.0000001 km, by an independent program: refused for its height before its form is asked for.
+const AT_THE_CHANGE: &[u8] =
+    b"2 90001   0.0000   0.0000 0010000   0.0000   0.0000 16.19864150    15";
+
 const ECCENTRIC: &[u8] = b"2 90001   0.0000   0.0000 2000001   0.0000   0.0000 15.00000000    12";
 
 const INCLINED: &[u8] = b"2 90001 175.0001   0.0000 0010000   0.0000   0.0000 15.00000000    14";
 
 #[test]
 fn sets_of_two_lines_are_taken_or_refused(rt: HostRuntime) {
-    let rows: [(&[u8], &[u8], Option<SatFault>); 8] = [
+    let rows: [(&[u8], &[u8], Option<SatFault>); 9] = [
         (A1, A2, None),
         (B1, B2, None),
         (C1, C2, None),
         (C1, SLOW, Some(SatFault::Deep)),
         (C1, FAST, Some(SatFault::Low)),
+        (C1, AT_THE_CHANGE, Some(SatFault::Low)),
         (C1, ECCENTRIC, Some(SatFault::Eccentric)),
         (C1, INCLINED, Some(SatFault::Inclined)),
         (DRAGGED, C2, Some(SatFault::Drag)),

@@ -12,7 +12,7 @@ use Rattle.sgp4_model.specs.Coefficients.{CoefficientRecord, IsRemainingCoeffici
 use Rattle.sgp4_model.specs.Density.{DensityRecord, IsDensityTerms}
 use Rattle.sgp4_model.specs.Drag.{DragRecord, IsPerigeeDragCoefficient, near_circle}
 use Rattle.sgp4_model.specs.EpochAngles.{EpochRecord}
-use Rattle.sgp4_model.specs.MeanMotion.{MotionRecord, RecoversMotion}
+use Rattle.sgp4_model.specs.MeanMotion.{IsFullMotion, IsSimpleMotion, MotionRecord, RecoversMotion}
 use Rattle.sgp4_model.specs.Numerals.{whole, decimal}
 use Rattle.sgp4_model.specs.Rates.{RatesRecord}
 use Rattle.sgp4_model.specs.Wgs72.{j3}
@@ -77,29 +77,32 @@ module _ (z : EpochRecord) (m : MotionRecord) (d : DensityRecord) (g : DragRecor
   abbrev u : ℚ
   u = unit_minutes 1
 
-  pub omgcof_else : IsPerigeeDragCoefficient m d g → m.e ≤ℚ near_circle → u *ℚ k.omgcof ≡ zero_ℚ
-  omgcof_else i h =
-      ap (λ t. u *ℚ t) (remaining.omgcof_is ∙ ap (λ t. z.bstar *ℚ t *ℚ z.of_w0.cosine) (i.c3_is_else h))
+  pub omgcof_simple : IsSimpleMotion m → u *ℚ k.omgcof ≡ zero_ℚ
+  omgcof_simple simple = ap (λ t. u *ℚ t) (remaining.omgcof_is_simple simple) ∙ ring [] (search reads depth 90) tt
+
+  pub omgcof_else : IsFullMotion m → IsPerigeeDragCoefficient m d g → m.e ≤ℚ near_circle → u *ℚ k.omgcof ≡ zero_ℚ
+  omgcof_else full i h =
+      ap (λ t. u *ℚ t) (remaining.omgcof_is full ∙ ap (λ t. z.bstar *ℚ t *ℚ z.of_w0.cosine) (i.c3_is_else h))
       ∙ ring (z.bstar ∷ z.of_w0.cosine ∷ []) (search reads depth 90) tt
 
-  pub omgcof_is : (b : ℚ) → z.bstar ≡ b → IsPerigeeDragCoefficient m d g → near_circle <ℚ m.e →
+  pub omgcof_is : IsFullMotion m → (b : ℚ) → z.bstar ≡ b → IsPerigeeDragCoefficient m d g → near_circle <ℚ m.e →
       d.coef *ℚ d.xi *ℚ (u *ℚ m.n0 *ℚ m.si) *ℚ (b *ℚ ratio (pos 253881) 54130800) /ℚ m.e *ℚ z.of_w0.cosine ≡ u *ℚ k.omgcof
-  omgcof_is b e i h =
+  omgcof_is full b e i h =
       ring (d.coef ∷ d.xi ∷ m.n0 ∷ m.si ∷ b ∷ inverse m.e ∷ z.of_w0.cosine ∷ []) {y = u *ℚ (b *ℚ c3 (ratio (pos (10 ^ 9)) 1082616) *ℚ z.of_w0.cosine)} (search reads depth 90) tt
       ∙ ap (λ t. u *ℚ (b *ℚ c3 t *ℚ z.of_w0.cosine)) (sym j2_inverse)
       ∙ ap (λ t. u *ℚ (b *ℚ t *ℚ z.of_w0.cosine)) (sym (i.c3_is h))
       ∙ ap (λ t. u *ℚ (t *ℚ g.c3 *ℚ z.of_w0.cosine)) (sym e)
-      ∙ ap (λ t. u *ℚ t) (sym remaining.omgcof_is)
+      ∙ ap (λ t. u *ℚ t) (sym (remaining.omgcof_is full))
     where
       -- C3, with some number for the inverse of J2
       c3 : ℚ → ℚ
       c3 t = neg_ℚ (whole 2) *ℚ d.coef *ℚ d.xi *ℚ (j3 *ℚ t) *ℚ m.n0 *ℚ m.si /ℚ m.e
 
-  xi_over_eta : near_circle <ℚ m.e → RecoversMotion m → inverse m.a *ℚ inverse m.e ≡ d.xi *ℚ inverse d.eta
-  xi_over_eta h recovers =
+  xi_over_eta : IsFullMotion m → near_circle <ℚ m.e → RecoversMotion m → inverse m.a *ℚ inverse m.e ≡ d.xi *ℚ inverse d.eta
+  xi_over_eta full h recovers =
       equal_by (m.a ∷ m.e ∷ d.xi ∷ inverse m.a ∷ inverse m.e ∷ inverse d.eta ∷ [])
       (none (mul_inverse m.a (not_zero (axis_positive recovers))) (d.xi *ℚ inverse d.eta *ℚ (m.e *ℚ inverse m.e))
-      ⊞ none (mul_inverse m.e (left_factor d.eta (remaining.e_eta_divides h))) (d.xi *ℚ inverse d.eta)
+      ⊞ none (mul_inverse m.e (left_factor d.eta (remaining.e_eta_divides full h))) (d.xi *ℚ inverse d.eta)
       ⊞ none eta_inverse (neg_ℚ (inverse m.a *ℚ inverse m.e)))
       (search reads depth 90) tt
     where
@@ -107,25 +110,25 @@ module _ (z : EpochRecord) (m : MotionRecord) (d : DensityRecord) (g : DragRecor
       axis_positive r = subst Positive (ring (m.a ∷ []) (search reads depth 90) tt) (positive_gap r.a_is.root)
 
       eta_inverse : m.a *ℚ m.e *ℚ d.xi *ℚ inverse d.eta ≡ one_ℚ
-      eta_inverse = ap (λ t. t *ℚ inverse d.eta) (sym terms.eta_is) ∙ mul_inverse d.eta (right_factor m.e (remaining.e_eta_divides h))
+      eta_inverse = ap (λ t. t *ℚ inverse d.eta) (sym terms.eta_is) ∙ mul_inverse d.eta (right_factor m.e (remaining.e_eta_divides full h))
 
   pub axis_divides : RecoversMotion m → ¬ (m.a ≡ zero_ℚ)
   axis_divides r = not_zero (subst Positive (ring (m.a ∷ []) {x = m.a -ℚ zero_ℚ} {y = m.a} (search reads depth 90) tt) (positive_gap r.a_is.root))
 
-  pub xmcof_is : (b e : ℚ) → z.bstar ≡ b → m.e ≡ e → near_circle <ℚ m.e → RecoversMotion m →
+  pub xmcof_is : IsFullMotion m → (b e : ℚ) → z.bstar ≡ b → m.e ≡ e → near_circle <ℚ m.e → RecoversMotion m →
       ratio (negsuc 27999) 6378135 /ℚ m.a *ℚ (part_of_radius *ℚ d.xi *ℚ (part_of_radius *ℚ d.xi) *ℚ (part_of_radius *ℚ d.xi)) *ℚ (b /ℚ e) /ℚ m.e ≡ k.xmcof
-  xmcof_is b e of_b of_e h recovers =
+  xmcof_is full b e of_b of_e h recovers =
       ap (λ t. ratio (negsuc 27999) 6378135 /ℚ m.a *ℚ (part_of_radius *ℚ d.xi *ℚ (part_of_radius *ℚ d.xi) *ℚ (part_of_radius *ℚ d.xi)) *ℚ (b /ℚ t) /ℚ m.e) (sym of_e)
       ∙ ring (d.xi ∷ b ∷ inverse m.a ∷ inverse m.e ∷ []) {y = neg_ℚ (ratio (pos 2) 3) *ℚ (part_of_radius *ℚ (part_of_radius *ℚ d.xi) ^ℚ 3) *ℚ b *ℚ (inverse m.e *ℚ (inverse m.a *ℚ inverse m.e))} (search reads depth 90) tt
-      ∙ ap (λ t. neg_ℚ (ratio (pos 2) 3) *ℚ (part_of_radius *ℚ (part_of_radius *ℚ d.xi) ^ℚ 3) *ℚ b *ℚ (inverse m.e *ℚ t)) (xi_over_eta h recovers)
+      ∙ ap (λ t. neg_ℚ (ratio (pos 2) 3) *ℚ (part_of_radius *ℚ (part_of_radius *ℚ d.xi) ^ℚ 3) *ℚ b *ℚ (inverse m.e *ℚ t)) (xi_over_eta full h recovers)
       ∙ ring (d.xi ∷ b ∷ inverse m.e ∷ inverse d.eta ∷ []) {y = neg_ℚ (ratio (pos 2) 3) *ℚ (part_of_radius *ℚ d.xi *ℚ (part_of_radius *ℚ d.xi) *ℚ (part_of_radius *ℚ d.xi *ℚ (part_of_radius *ℚ d.xi))) *ℚ b *ℚ (inverse m.e *ℚ inverse d.eta)} (search reads depth 90) tt
       ∙ ap (λ t. neg_ℚ (ratio (pos 2) 3) *ℚ t *ℚ b *ℚ (inverse m.e *ℚ inverse d.eta)) (coef_power m d terms)
       ∙ ap (λ t. neg_ℚ (ratio (pos 2) 3) *ℚ d.coef *ℚ t *ℚ (inverse m.e *ℚ inverse d.eta)) (sym of_b)
       ∙ ap (λ t. neg_ℚ (ratio (pos 2) 3) *ℚ d.coef *ℚ z.bstar *ℚ t) (sym (inverse_product (left_factor d.eta divides) (right_factor m.e divides) divides))
-      ∙ sym (remaining.xmcof_is h)
+      ∙ sym (remaining.xmcof_is full h)
     where
       divides : ¬ (m.e *ℚ d.eta ≡ zero_ℚ)
-      divides = remaining.e_eta_divides h
+      divides = remaining.e_eta_divides full h
 
   pub nodecf_is : ratio (negsuc 6) 2 *ℚ m.bb *ℚ (u *ℚ f.w1 *ℚ m.c) *ℚ (u *ℚ g.c1) ≡ unit_minutes 2 *ℚ k.nodecf
   nodecf_is = ring (m.bb ∷ f.w1 ∷ m.c ∷ g.c1 ∷ []) (search reads depth 90) tt ∙ ap (λ t. unit_minutes 2 *ℚ t) (sym remaining.nodecf_is)

@@ -16,6 +16,7 @@ use Rattle.sgp4_model.specs.OrbitRecords.{ConstRecord}
 use Rattle.sgp4_model.specs.Records.{SetRecord}
 use Rattle.sgp4_model.proofs.FarQuarters.{pi_above_3}
 use Rattle.sgp4_model.proofs.MotionExists.{recovered_motion_exists}
+use Rattle.sgp4_motion.specs.declared.limits.TheConstants.{LEAST_PERIGEE_KM}
 use Rattle.sgp4_motion.proofs.FaultLemmas.{le_of_not_lt}
 use Rattle.sgp4_init.specs.ConstantsExist.{ConstantsExist}
 use Rattle.sgp4_init.proofs.CosineLemmas.{cosine_above}
@@ -55,7 +56,7 @@ cosine_divides set pi m is_pi recovered least most =
     high = rw recovered.i_is (le_by (pi ∷ set.incl ∷ []) (known 1 180 ⊗ (gap most ⊗ (known 3 1 ⊕ gap (pi_above_3 is_pi)))) (search reads depth 90) tt)
 
 -- the constants of a set, from its recovered motion
-from_motion : (set : SetRecord) (pi : ℚ) (m : MotionRecord) → IsPi pi → IsMotionRecovered set pi m → zero_ℚ ≤ℚ m.e → m.e ≤ℚ decimal 2 1 → whole 300 ≤ℚ perigee_of m →
+from_motion : (set : SetRecord) (pi : ℚ) (m : MotionRecord) → IsPi pi → IsMotionRecovered set pi m → zero_ℚ ≤ℚ m.e → m.e ≤ℚ decimal 2 1 → whole LEAST_PERIGEE_KM ≤ℚ perigee_of m →
     IsDivisor (one_ℚ +ℚ m.c) → (k : ConstRecord) × IsConsts set pi k
 from_motion set pi m is_pi recovered least most perigee by_cosine =
     let epoch = epoch_exists set pi is_pi in
@@ -89,7 +90,7 @@ from_motion set pi m is_pi recovered least most perigee by_cosine =
 
 -- the constants of a set whose eccentricity, mean motion, inclination and perigee are in range
 from_set : (set : SetRecord) (pi : ℚ) → IsPi pi → zero_ℚ ≤ℚ set.ecc → set.ecc ≤ℚ decimal 2 1 → zero_ℚ <ℚ set.motion → set.motion ≤ℚ whole 17 → zero_ℚ ≤ℚ set.incl → set.incl ≤ℚ whole 175 →
-    ((m : MotionRecord) → IsMotionRecovered set pi m → whole 300 ≤ℚ perigee_of m) → (k : ConstRecord) × IsConsts set pi k
+    ((m : MotionRecord) → IsMotionRecovered set pi m → whole LEAST_PERIGEE_KM ≤ℚ perigee_of m) → (k : ConstRecord) × IsConsts set pi k
 from_set set pi is_pi least most slow fast flat steep perigee =
     let found = recovered_motion_exists set pi is_pi least (le_by (set.ecc ∷ []) (gap most) (search reads depth 90) tt) slow fast in
     from_motion set pi found.0 is_pi found.1 (rw found.1.e_is least) (rw found.1.e_is most) (perigee found.0 found.1) (cosine_divides set pi found.0 is_pi found.1 flat steep)

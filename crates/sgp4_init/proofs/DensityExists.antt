@@ -11,6 +11,7 @@ use Rattle.sgp4_model.specs.Numerals.{decimal, whole}
 use Rattle.sgp4_model.specs.Root.{IsSqrt}
 use Rattle.sgp4_model.specs.Wgs72.{density_base_km, density_top_km, earth_radius_km}
 use Rattle.sgp4_model.proofs.RootExists.{square_root_exists}
+use Rattle.sgp4_motion.specs.declared.limits.TheConstants.{LEAST_PERIGEE_KM}
 use Rattle.sgp4_init.proofs.DensityLemmas.{base, base_is}
 use Rattle.sgp4_init.proofs.EquationLemmas.{positive_from}
 
@@ -27,7 +28,7 @@ root_above {x} {r} h root =
 positive_cube : {x : ℚ} → Positive x → Positive (x ^ℚ 3)
 positive_cube {x} h = subst Positive (ring (x ∷ []) (search reads depth 90) tt) (positive_product (positive_product h h) h)
 
-module _ (m : MotionRecord) (recovers : RecoversMotion m) (least : zero_ℚ ≤ℚ m.e) (most : m.e ≤ℚ decimal 2 1) (perigee : whole 300 ≤ℚ perigee_of m) where
+module _ (m : MotionRecord) (recovers : RecoversMotion m) (least : zero_ℚ ≤ℚ m.e) (most : m.e ≤ℚ decimal 2 1) (perigee : whole LEAST_PERIGEE_KM ≤ℚ perigee_of m) where
   abbrev above : ℚ
   above = m.a -ℚ base
 

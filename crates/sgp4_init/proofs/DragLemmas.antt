@@ -4,7 +4,7 @@ use Rattle.exact.specs.Rational.{ℚ, ratio, inverse, ◌+ℚ◌, ◌-ℚ◌, �
 use Rattle.exact.proofs.RationalRing.{ring, reads}
 use Rattle.sgp4_model.specs.Density.{DensityRecord}
 use Rattle.sgp4_model.specs.Drag.{DragRecord, IsDragCoefficient, IsEccentricityDragCoefficient, IsPeriodicEccentricityDragCoefficient}
-use Rattle.sgp4_model.specs.MeanMotion.{MotionRecord}
+use Rattle.sgp4_model.specs.MeanMotion.{IsFullMotion, MotionRecord}
 use Rattle.sgp4_model.specs.Numerals.{whole, decimal}
 use Rattle.sgp4_model.specs.Wgs72.{j2}
 use Rattle.sgp4_shape.specs.Covering.{unit_minutes}
@@ -88,9 +88,9 @@ module _ (m : MotionRecord) (d : DensityRecord) (g : DragRecord) where
       ∙ ap (λ t. unit_minutes 1 *ℚ c4_with first (second cosine) t) (sym (inverse_product (left_factor d.psi i.a_psi_divides) (right_factor m.a i.a_psi_divides) i.a_psi_divides))
       ∙ ap (λ t. unit_minutes 1 *ℚ t) (sym i.c4_is)
 
-  pub c5_is : m.p ≡ m.a *ℚ m.bb → IsPeriodicEccentricityDragCoefficient m d g →
+  pub c5_is : m.p ≡ m.a *ℚ m.bb → IsFullMotion m → IsPeriodicEccentricityDragCoefficient m d g →
       (d.coef1 +ℚ d.coef1) *ℚ m.p *ℚ (ratio (pos 1) 1 +ℚ ratio (pos 11) 4 *ℚ (et2 +ℚ eeta) +ℚ eeta *ℚ et2) ≡ g.c5
-  c5_is p i =
+  c5_is p full i =
       ap (λ t. (d.coef1 +ℚ d.coef1) *ℚ t *ℚ (ratio (pos 1) 1 +ℚ ratio (pos 11) 4 *ℚ (et2 +ℚ eeta) +ℚ eeta *ℚ et2)) p
       ∙ ring (d.coef1 ∷ m.a ∷ m.bb ∷ m.e ∷ d.eta ∷ []) (search reads depth 200) tt
-      ∙ sym i.c5_is
+      ∙ sym (i.c5_is full)

@@ -17,11 +17,12 @@ use Rattle.sgp4_shape.specs.declared.consts.Consts.{Consts}
 use Rattle.sgp4_shape.specs.Covering.{CoversConsts}
 use Rattle.sgp4_shape.specs.HeldConsts.{ConstReach, IsHeldConsts}
 use Rattle.sgp4_motion.specs.HeldMotion.{reach_motion}
+use Rattle.sgp4_motion.specs.declared.limits.TheConstants.{LEAST_PERIGEE_KM}
 use Rattle.sgp4_init.specs.TakenMotion.{IsTakenMotion}
 use Rattle.sgp4_init.proofs.CosineLemmas.{cosine_above, sine_within}
 
 -- the motion of a set of at most 175 degrees, with its ranges and its perigee
-pub taken_motion : (pi degrees : ℚ) (m : MotionRecord) → IsPi pi → m.i ≡ radians pi degrees → IsSinCos pi m.i m.si m.c → degrees ≤ℚ whole 175 → whole 300 ≤ℚ perigee_of m →
+pub taken_motion : (pi degrees : ℚ) (m : MotionRecord) → IsPi pi → m.i ≡ radians pi degrees → IsSinCos pi m.i m.si m.c → degrees ≤ℚ whole 175 → whole LEAST_PERIGEE_KM ≤ℚ perigee_of m →
     Inside reach_motion.i.range m.i → Inside reach_motion.e.range m.e → Inside reach_motion.a.range m.a → IsTakenMotion m
 unfolding ratio
 taken_motion pi degrees m is_pi angle pair most perigee of_i of_e of_a =

@@ -7,6 +7,7 @@ mod DensityLemmas
 mod DragClaimLemmas
 mod DragLemmas
 mod EquationLemmas
+pub mod FormLemmas
 mod GivenLemmas
 mod InitialLemmas
 mod NumberLemmas

@@ -5,13 +5,13 @@ use Rattle.exact.proofs.RationalRing.{ring, reads}
 use Rattle.exact.proofs.Strict.{mul_inverse}
 use Rattle.sgp4_model.specs.Density.{DensityRecord, IsDensityTerms}
 use Rattle.sgp4_model.specs.Drag.{DragRecord}
-use Rattle.sgp4_model.specs.HigherDrag.{HigherDragRecord, IsHigherDragTerms}
+use Rattle.sgp4_model.specs.HigherDrag.{HigherDragRecord, IsFullHigherDrag}
 use Rattle.sgp4_model.specs.MeanMotion.{MotionRecord}
 use Rattle.sgp4_shape.specs.Covering.{unit_minutes}
 use Rattle.sgp4_init.proofs.DensityLemmas.{base, base_is}
 use Rattle.sgp4_init.proofs.EquationLemmas.{equal_by, none}
 
-module _ (m : MotionRecord) (d : DensityRecord) (g : DragRecord) (f : HigherDragRecord) (terms : IsDensityTerms m d) (higher : IsHigherDragTerms m d g f) where
+module _ (m : MotionRecord) (d : DensityRecord) (g : DragRecord) (f : HigherDragRecord) (terms : IsDensityTerms m d) (higher : IsFullHigherDrag m d g f) where
   abbrev u : ℚ
   u = unit_minutes 1
 

@@ -1,7 +1,6 @@
 -- The numerals of the parts of the constants of a set that is taken, one part from the earlier ones.
-use Rattle.std.proofs.Common.{Bool, pos, negsuc}
-use Rattle.exact.specs.Rational.{ℚ}
-use Rattle.fixed_iv.specs.Extent.{Extent}
+use Rattle.std.proofs.Common.{pos, negsuc}
+use Rattle.fixed_iv.specs.declared.enc.Enc.{Ghosts}
 use Rattle.fixed_iv.specs.Place.{Place}
 use Rattle.fixed_iv.specs.Reach.{from_to, turned, ◌+ᴿ◌, ◌-ᴿ◌, ◌*ᴿ◌, ◌/ᴿ◌}
 use Rattle.fixed_iv.specs.ReachRoots.{rooted}
@@ -33,8 +32,8 @@ taken_density = record {
   coef1 = from_to (pos 0) (pos 12821) 10000000 1024;
 }
 
-pub density_within : {A : Type 0} {C : A → Place → ℚ → Type 0} {E : A → Extent} {told : Bool} {a : Density A} {h : Place} {x : DensityRecord} →
-    IsHeldDensity C E told a h x (reach_density reach_motion) → IsHeldDensity C E told a h x taken_density
+pub density_within : {A : Type 0} {E : Ghosts A} {a : Density A} {h : Place} {x : DensityRecord} →
+    IsHeldDensity E a h x (reach_density reach_motion) → IsHeldDensity E a h x taken_density
 unfolding of_ratio sized ◌+ᴿ◌ ◌-ᴿ◌ ◌*ᴿ◌ ◌/ᴿ◌ rooted
 density_within k = record {
   xi = within taken_density.xi k.xi tt;
@@ -51,9 +50,9 @@ taken_drag = record {
   c5 = from_to (negsuc 4) (pos 5) 1000 16384;
 }
 
-pub drag_within : {A : Type 0} {C : A → Place → ℚ → Type 0} {E : A → Extent} {told : Bool} {a : Drag A} {h : Place} {x : DragRecord} →
-    IsHeldDrag C E told a h x (reach_drag reach_motion taken_density given_drag (turned (given_angle +ᴿ given_angle))) → IsHeldDrag C E told a h x taken_drag
-unfolding of_ratio turned ◌+ᴿ◌ ◌-ᴿ◌ ◌*ᴿ◌ ◌/ᴿ◌
+pub drag_within : {A : Type 0} {E : Ghosts A} {a : Drag A} {h : Place} {x : DragRecord} →
+    IsHeldDrag E a h x (reach_drag reach_motion taken_density given_drag (turned (given_angle +ᴿ given_angle))) → IsHeldDrag E a h x taken_drag
+unfolding of_ratio or_zero turned ◌+ᴿ◌ ◌-ᴿ◌ ◌*ᴿ◌ ◌/ᴿ◌
 drag_within k = record {
   c1 = within taken_drag.c1 k.c1 tt;
   c4 = within taken_drag.c4 k.c4 tt;
@@ -68,8 +67,8 @@ taken_rates = record {
   odot = from_to (negsuc 1710) (pos 1711) 1000 22528;
 }
 
-pub rates_within : {A : Type 0} {C : A → Place → ℚ → Type 0} {E : A → Extent} {told : Bool} {a : Rates A} {h : Place} {x : RatesRecord} →
-    IsHeldRates C E told a h x (reach_rates reach_motion) → IsHeldRates C E told a h x taken_rates
+pub rates_within : {A : Type 0} {E : Ghosts A} {a : Rates A} {h : Place} {x : RatesRecord} →
+    IsHeldRates E a h x (reach_rates reach_motion) → IsHeldRates E a h x taken_rates
 unfolding of_ratio ◌+ᴿ◌ ◌-ᴿ◌ ◌*ᴿ◌ ◌/ᴿ◌
 rates_within k = record {
   w1 = within taken_rates.w1 k.w1 tt;
@@ -89,8 +88,8 @@ taken_coefficients = record {
   delmo = from_to (pos 1) (pos 6674) 1000 360448;
 }
 
-pub coefficients_within : {A : Type 0} {C : A → Place → ℚ → Type 0} {E : A → Extent} {told : Bool} {a : Coefficients A} {h : Place} {x : CoefficientRecord} →
-    IsHeldCoefficients C E told a h x (reach_coefficients reach_motion taken_density taken_rates.w1 taken_drag.c1) → IsHeldCoefficients C E told a h x taken_coefficients
+pub coefficients_within : {A : Type 0} {E : Ghosts A} {a : Coefficients A} {h : Place} {x : CoefficientRecord} →
+    IsHeldCoefficients E a h x (reach_coefficients reach_motion taken_density taken_rates.w1 taken_drag.c1) → IsHeldCoefficients E a h x taken_coefficients
 unfolding of_ratio or_zero turned ◌+ᴿ◌ ◌*ᴿ◌ ◌/ᴿ◌
 coefficients_within k = record {
   omgcof = within taken_coefficients.omgcof k.omgcof tt;
@@ -112,9 +111,9 @@ taken_series = record {
   t5cof = from_to (negsuc 53) (pos 54) 1000000 1152;
 }
 
-pub series_within : {A : Type 0} {C : A → Place → ℚ → Type 0} {E : A → Extent} {told : Bool} {a : Series A} {h : Place} {x : HigherDragRecord} →
-    IsHeldSeries C E told a h x (reach_series reach_motion.a taken_density.xi taken_drag.c1) → IsHeldSeries C E told a h x taken_series
-unfolding of_ratio ◌+ᴿ◌ ◌*ᴿ◌
+pub series_within : {A : Type 0} {E : Ghosts A} {a : Series A} {h : Place} {x : HigherDragRecord} →
+    IsHeldSeries E a h x (reach_series reach_motion.a taken_density.xi taken_drag.c1) → IsHeldSeries E a h x taken_series
+unfolding of_ratio or_zero ◌+ᴿ◌ ◌*ᴿ◌
 series_within k = record {
   d2 = within taken_series.d2 k.d2 tt;
   d3 = within taken_series.d3 k.d3 tt;

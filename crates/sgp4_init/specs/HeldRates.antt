@@ -1,13 +1,18 @@
 -- What numerals say of the enclosed rates.
-use Rattle.std.specs.Prelude.{Bool, pos, negsuc}
-use Rattle.exact.specs.Rational.{ℚ, ◌*ℚ◌}
-use Rattle.fixed_iv.specs.Extent.{Extent}
+use Rattle.std.specs.Prelude.{ℕ}
+use Rattle.exact.specs.Rational.{◌*ℚ◌}
+use Rattle.fixed_iv.specs.Arithmetic.{numerals}
+use Rattle.fixed_iv.specs.Follows.{Encloses}
 use Rattle.fixed_iv.specs.Place.{Place}
-use Rattle.fixed_iv.specs.Reach.{Reach, IsHeld, ◌+ᴿ◌, ◌-ᴿ◌, ◌*ᴿ◌, ◌/ᴿ◌}
-use Rattle.sgp4_model.specs.Rates.{RatesRecord}
+use Rattle.fixed_iv.specs.Reach.{Reach, ◌*ᴿ◌, ◌/ᴿ◌}
+use Rattle.fixed_iv.specs.declared.enc.Enc.{Ghosts}
+use Rattle.sgp4_model.specs.MeanMotion.{MotionRecord}
+use Rattle.sgp4_model.specs.Rates.{IsMeanAnomalyRate, IsNodeRate, IsOblatenessFactors, IsPerigeeRate, RatesRecord}
 use Rattle.sgp4_shape.specs.Covering.{unit_minutes}
-use Rattle.sgp4_motion.specs.HeldMotion.{MotionReach}
-use Rattle.sgp4_init.specs.Numerals.{of_ratio}
+use Rattle.sgp4_motion.specs.HeldMotion.{IsHeldMotion, MotionReach}
+use Rattle.sgp4_motion.specs.declared.recovered.Recovered.{Recovered}
+use Rattle.sgp4_init.specs.RateLines.{first_factor, in_squares, inverse_square, mean_anomaly_rate, node_rate, perigee_rate, second_factor, third_factor}
+use Rattle.sgp4_init.specs.Ratios.{whole}
 use Rattle.sgp4_init.specs.declared.rates.Rates.{Rates}
 
 -- numerals for the first common factor and for each rate
@@ -18,45 +23,43 @@ pub record RatesReach : Type 0 where
   pub odot : Reach
 
 -- each is covered at the place per 16,384 minutes, and its enclosure is as its numerals say
-pub record IsHeldRates {A : Type 0} (covers : A → Place → ℚ → Type 0) (extent : A → Extent) (told : Bool) (rates : Rates A) (h : Place) (f : RatesRecord) (r : RatesReach) : Type 0 where
-  pub w1 : IsHeld covers extent told rates.w1 h (unit_minutes 1 *ℚ f.w1) r.w1
-  pub mdot : IsHeld covers extent told rates.mdot h (unit_minutes 1 *ℚ f.mdot) r.mdot
-  pub wdot : IsHeld covers extent told rates.wdot h (unit_minutes 1 *ℚ f.wdot) r.wdot
-  pub odot : IsHeld covers extent told rates.odot h (unit_minutes 1 *ℚ f.odot) r.odot
+pub record IsHeldRates {A : Type 0} (E : Ghosts A) (rates : Rates A) (h : Place) (f : RatesRecord) (r : RatesReach) : Type 0 where
+  pub w1 : Encloses E rates.w1 h (unit_minutes 1 *ℚ f.w1) r.w1
+  pub mdot : Encloses E rates.mdot h (unit_minutes 1 *ℚ f.mdot) r.mdot
+  pub wdot : Encloses E rates.wdot h (unit_minutes 1 *ℚ f.wdot) r.wdot
+  pub odot : Encloses E rates.odot h (unit_minutes 1 *ℚ f.odot) r.odot
 
 module _ (r : MotionReach) where
   abbrev pub reach_ip2 : Reach
-  reach_ip2 = of_ratio (pos 1) (pos 1) /ᴿ (r.p *ᴿ r.p)
+  reach_ip2 = (inverse_square numerals r.p).0 /ᴿ (inverse_square numerals r.p).1
 
   abbrev pub reach_w1 : Reach
-  reach_w1 = of_ratio (pos 1623924) (pos 1000000000) *ᴿ r.n0 *ᴿ reach_ip2
+  reach_w1 = first_factor numerals r.n0 reach_ip2
 
   abbrev pub reach_w2 : Reach
-  reach_w2 = of_ratio (pos 541308) (pos 1000000000) *ᴿ reach_w1 *ᴿ reach_ip2
+  reach_w2 = second_factor numerals reach_w1 reach_ip2
 
   abbrev pub reach_w3 : Reach
-  reach_w3 = of_ratio (pos 2483955) (pos 3200000000000) *ᴿ r.n0 *ᴿ reach_ip2 *ᴿ reach_ip2
+  reach_w3 = third_factor numerals r.n0 reach_ip2
 
   abbrev pub reach_c2 : Reach
   reach_c2 = r.c *ᴿ r.c
 
-  -- of a polynomial in the square of the cosine of the inclination
-  abbrev pub reach_in_squares : Reach → Reach → Reach → Reach
-  reach_in_squares constant square fourth = constant -ᴿ square *ᴿ reach_c2 +ᴿ fourth *ᴿ (reach_c2 *ᴿ reach_c2)
+  -- of a polynomial in the square of the cosine of the inclination, with these coefficients
+  abbrev pub reach_polynomial : ℕ → ℕ → ℕ → Reach
+  reach_polynomial constant square fourth = in_squares numerals (whole numerals constant) (whole numerals square) (whole numerals fourth) reach_c2
 
   -- the rates
   abbrev pub reach_rates : RatesReach
   reach_rates = record {
     w1 = reach_w1;
-    mdot =
-        r.n0 +ᴿ of_ratio (pos 1) (pos 2) *ᴿ reach_w1 *ᴿ r.b0 *ᴿ r.con41
-        +ᴿ of_ratio (pos 1) (pos 16) *ᴿ reach_w2 *ᴿ r.b0 *ᴿ reach_in_squares (of_ratio (pos 13) (pos 1)) (of_ratio (pos 78) (pos 1)) (of_ratio (pos 137) (pos 1));
-    wdot =
-        of_ratio (negsuc 0) (pos 2) *ᴿ reach_w1 *ᴿ r.con42
-        +ᴿ of_ratio (pos 1) (pos 16) *ᴿ reach_w2 *ᴿ reach_in_squares (of_ratio (pos 7) (pos 1)) (of_ratio (pos 114) (pos 1)) (of_ratio (pos 395) (pos 1))
-        +ᴿ reach_w3 *ᴿ reach_in_squares (of_ratio (pos 3) (pos 1)) (of_ratio (pos 36) (pos 1)) (of_ratio (pos 49) (pos 1));
-    odot =
-        (of_ratio (pos 1) (pos 2) *ᴿ reach_w2 *ᴿ (of_ratio (pos 4) (pos 1) -ᴿ of_ratio (pos 19) (pos 1) *ᴿ reach_c2)
-        +ᴿ (reach_w3 +ᴿ reach_w3) *ᴿ (of_ratio (pos 3) (pos 1) -ᴿ of_ratio (pos 7) (pos 1) *ᴿ reach_c2)) *ᴿ r.c
-        -ᴿ reach_w1 *ᴿ r.c;
+    mdot = mean_anomaly_rate numerals r.n0 reach_w1 reach_w2 r.b0 r.con41 (reach_polynomial 13 78 137);
+    wdot = perigee_rate numerals reach_w1 reach_w2 reach_w3 r.con42 (reach_polynomial 7 114 395) (reach_polynomial 3 36 49);
+    odot = node_rate numerals reach_w1 reach_w2 reach_w3 r.c reach_c2;
   }
+
+-- the enclosures hold the rates of a recovered motion
+pub record HoldsRates {A : Type 0} (E : Ghosts A) (motion : Recovered A) (rates : Rates A) : Type 0 where
+  pub gives : (h : Place) (m : MotionRecord) (f : RatesRecord) (r : MotionReach) →
+      IsOblatenessFactors m f → IsMeanAnomalyRate m f → IsPerigeeRate m f → IsNodeRate m f →
+      IsHeldMotion E motion h m r → IsHeldRates E rates h f (reach_rates r)

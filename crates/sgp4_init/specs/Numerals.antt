@@ -1,5 +1,6 @@
 -- What numerals say of given numbers.
 use Rattle.std.specs.Prelude.{ℕ, ℤ, ltb, negsuc, pos, pred, ◌&&◌, ◌-ℤ◌, unsigned_abs}
+use Rattle.exact.specs.Rational.{ℚ, ratio, ◌*ℚ◌}
 use Rattle.exact.proofs.Intervals.{coef_max, coef_min, just}
 use Rattle.exact.proofs.RationalRing.{Coef}
 use Rattle.fixed_iv.specs.Reach.{Reach, above_0, from_to, is_small, lowest, outer, reach_of, units_above, units_below}
@@ -30,11 +31,15 @@ given_angle = from_to (negsuc 6283) (pos 6284) 1000 10
 abbrev pub given_drag : Reach
 given_drag = from_to (negsuc 0) (pos 1) 1000 1
 
--- of -2 J3 / J2 times it
+-- -2 J3 / J2 times a drag term
+abbrev pub perigee_factor : ℚ → ℚ
+perigee_factor bstar = bstar *ℚ ratio (pos 253881) 54130800
+
+-- of that
 abbrev pub given_perigee_drag : Reach
 given_perigee_drag = from_to (negsuc 4) (pos 5) 1000000 1
 
--- of it over an eccentricity above 0.0001
+-- of a drag term over an eccentricity above 0.0001
 abbrev pub given_drag_over_eccentricity : Reach
 given_drag_over_eccentricity = from_to (negsuc 9) (pos 10) 1 1
 

@@ -1,16 +1,13 @@
 //! The brackets in the drag coefficients.
-ghost use Rattle.std.specs.Prelude.{pos, ◌≡◌};
-ghost use Rattle.exact.specs.Rational.{ℚ, ◌+ℚ◌, ◌-ℚ◌, ◌*ℚ◌, ◌/ℚ◌, ratio, zero_ℚ};
-ghost use Rattle.fixed_iv.specs.Place.{Place};
-ghost use Rattle.fixed_iv.specs.Reach.{Reach, IsHeld, ◌+ᴿ◌, ◌-ᴿ◌, ◌*ᴿ◌, ◌/ᴿ◌};
-ghost use Rattle.sgp4_init.specs.Numerals.{of_ratio};
+ghost use Rattle.fixed_iv.specs.Follows.{Follows2, Follows3, Follows4, FollowsRatio2};
+ghost use Rattle.sgp4_init.specs.DragLines.{along_orbit, by_eccentricity, by_oblateness, c4_bracket, c5_bracket, share_of_j2, steady_shape, turning_shape};
 
 use crate::numbers::number;
 use fixed_iv::Enc;
 
 /// The first part of the bracket in C2, from the square of eta and from e times eta.
 pub(crate) fn along_orbit<E: Enc>(a: E, et2: E, eeta: E) -> E
-    ensures { (h : Place) (x_a x_et2 x_eeta : ℚ) (r_a r_et2 r_eeta : Reach) → IsHeld E.covers E.extent E.tells a h x_a r_a → IsHeld E.covers E.extent E.tells et2 h x_et2 r_et2 → IsHeld E.covers E.extent E.tells eeta h x_eeta r_eeta → IsHeld E.covers E.extent E.tells result h (x_a *ℚ (ratio (pos 1) 1 +ℚ ratio (pos 3) 2 *ℚ x_et2 +ℚ x_eeta *ℚ (ratio (pos 4) 1 +ℚ x_et2))) (r_a *ᴿ (of_ratio (pos 1) (pos 1) +ᴿ of_ratio (pos 3) (pos 2) *ᴿ r_et2 +ᴿ r_eeta *ᴿ (of_ratio (pos 4) (pos 1) +ᴿ r_et2))) }
+    ensures { Follows3 E.Enc result along_orbit a et2 eeta }
 {
     let sum = number::<E>(1, 1)
         .plus(number::<E>(3, 2).times(et2))
@@ -20,7 +17,7 @@ pub(crate) fn along_orbit<E: Enc>(a: E, et2: E, eeta: E) -> E
 
 /// The second part of the bracket in C2, which the second harmonic makes. `xp` is xi over psi.
 pub(crate) fn by_oblateness<E: Enc>(xp: E, con41: E, et2: E) -> E
-    ensures { (h : Place) (x_xp x_con41 x_et2 : ℚ) (r_xp r_con41 r_et2 : Reach) → IsHeld E.covers E.extent E.tells xp h x_xp r_xp → IsHeld E.covers E.extent E.tells con41 h x_con41 r_con41 → IsHeld E.covers E.extent E.tells et2 h x_et2 r_et2 → IsHeld E.covers E.extent E.tells result h (ratio (pos 405981) 1000000000 *ℚ x_xp *ℚ x_con41 *ℚ (ratio (pos 8) 1 +ℚ ratio (pos 3) 1 *ℚ x_et2 *ℚ (ratio (pos 8) 1 +ℚ x_et2))) (of_ratio (pos 405981) (pos 1000000000) *ᴿ r_xp *ᴿ r_con41 *ᴿ (of_ratio (pos 8) (pos 1) +ᴿ of_ratio (pos 3) (pos 1) *ᴿ r_et2 *ᴿ (of_ratio (pos 8) (pos 1) +ᴿ r_et2))) }
+    ensures { Follows3 E.Enc result by_oblateness xp con41 et2 }
 {
     let shape = number::<E>(8, 1).plus(
         number::<E>(3, 1)
@@ -35,7 +32,7 @@ pub(crate) fn by_oblateness<E: Enc>(xp: E, con41: E, et2: E) -> E
 
 /// The first part of the bracket in C4.
 pub(crate) fn by_eccentricity<E: Enc>(eta: E, e: E, et2: E) -> E
-    ensures { (h : Place) (x_eta x_e x_et2 : ℚ) (r_eta r_e r_et2 : Reach) → IsHeld E.covers E.extent E.tells eta h x_eta r_eta → IsHeld E.covers E.extent E.tells e h x_e r_e → IsHeld E.covers E.extent E.tells et2 h x_et2 r_et2 → IsHeld E.covers E.extent E.tells result h (x_eta *ℚ (ratio (pos 2) 1 +ℚ ratio (pos 1) 2 *ℚ x_et2) +ℚ x_e *ℚ (ratio (pos 1) 2 +ℚ x_et2 +ℚ x_et2)) (r_eta *ᴿ (of_ratio (pos 2) (pos 1) +ᴿ of_ratio (pos 1) (pos 2) *ᴿ r_et2) +ᴿ r_e *ᴿ (of_ratio (pos 1) (pos 2) +ᴿ r_et2 +ᴿ r_et2)) }
+    ensures { Follows3 E.Enc result by_eccentricity eta e et2 }
 {
     let of_eta = eta.times(number::<E>(2, 1).plus(number::<E>(1, 2).times(et2)));
     let of_e = e.times(number::<E>(1, 2).plus(et2).plus(et2));
@@ -44,7 +41,7 @@ pub(crate) fn by_eccentricity<E: Enc>(eta: E, e: E, et2: E) -> E
 
 /// The term in the bracket of C4 that does not turn with the perigee.
 pub(crate) fn steady_shape<E: Enc>(con41: E, et2: E, eeta: E) -> E
-    ensures { (h : Place) (x_con41 x_et2 x_eeta : ℚ) (r_con41 r_et2 r_eeta : Reach) → IsHeld E.covers E.extent E.tells con41 h x_con41 r_con41 → IsHeld E.covers E.extent E.tells et2 h x_et2 r_et2 → IsHeld E.covers E.extent E.tells eeta h x_eeta r_eeta → IsHeld E.covers E.extent E.tells result h (x_con41 *ℚ (ratio (pos 1) 1 -ℚ (x_eeta +ℚ x_eeta) +ℚ x_et2 *ℚ (ratio (pos 3) 2 -ℚ ratio (pos 1) 2 *ℚ x_eeta))) (r_con41 *ᴿ (of_ratio (pos 1) (pos 1) -ᴿ (r_eeta +ᴿ r_eeta) +ᴿ r_et2 *ᴿ (of_ratio (pos 3) (pos 2) -ᴿ of_ratio (pos 1) (pos 2) *ᴿ r_eeta))) }
+    ensures { Follows3 E.Enc result steady_shape con41 et2 eeta }
 {
     let inner = number::<E>(3, 2).minus(number::<E>(1, 2).times(eeta));
     con41.times(
@@ -56,7 +53,7 @@ pub(crate) fn steady_shape<E: Enc>(con41: E, et2: E, eeta: E) -> E
 
 /// The term in the bracket of C4 that turns with twice the argument of perigee.
 pub(crate) fn turning_shape<E: Enc>(c: E, et2: E, eeta: E, cosine: E) -> E
-    ensures { (h : Place) (x_c x_et2 x_eeta x_cosine : ℚ) (r_c r_et2 r_eeta r_cosine : Reach) → IsHeld E.covers E.extent E.tells c h x_c r_c → IsHeld E.covers E.extent E.tells et2 h x_et2 r_et2 → IsHeld E.covers E.extent E.tells eeta h x_eeta r_eeta → IsHeld E.covers E.extent E.tells cosine h x_cosine r_cosine → IsHeld E.covers E.extent E.tells result h ((ratio (pos 1) 1 -ℚ x_c *ℚ x_c) *ℚ (x_et2 +ℚ x_et2 -ℚ x_eeta *ℚ (ratio (pos 1) 1 +ℚ x_et2)) *ℚ x_cosine) ((of_ratio (pos 1) (pos 1) -ᴿ r_c *ᴿ r_c) *ᴿ (r_et2 +ᴿ r_et2 -ᴿ r_eeta *ᴿ (of_ratio (pos 1) (pos 1) +ᴿ r_et2)) *ᴿ r_cosine) }
+    ensures { Follows4 E.Enc result turning_shape c et2 eeta cosine }
 {
     let inner = et2.plus(et2).minus(eeta.times(number::<E>(1, 1).plus(et2)));
     number::<E>(1, 1)
@@ -65,24 +62,26 @@ pub(crate) fn turning_shape<E: Enc>(c: E, et2: E, eeta: E, cosine: E) -> E
         .times(cosine)
 }
 
-/// The bracket in C4, of its first part and the two terms that the second harmonic makes.
-pub(crate) fn c4_bracket<E: Enc>(first: E, xp: E, a: E, steady: E, turning: E) -> E
-    ensures { (h : Place) (x_first x_xp x_a x_steady x_turning : ℚ) (r_first r_xp r_a r_steady r_turning : Reach) → IsHeld E.covers E.extent E.tells first h x_first r_first → IsHeld E.covers E.extent E.tells xp h x_xp r_xp → IsHeld E.covers E.extent E.tells a h x_a r_a → IsHeld E.covers E.extent E.tells steady h x_steady r_steady → IsHeld E.covers E.extent E.tells turning h x_turning r_turning → ¬ (x_a ≡ zero_ℚ) → IsHeld E.covers E.extent E.tells result h (x_first -ℚ ratio (pos 1082616) 1000000000 *ℚ x_xp /ℚ x_a *ℚ (ratio (pos 3) 4 *ℚ x_turning -ℚ ratio (pos 3) 1 *ℚ x_steady)) (r_first -ᴿ of_ratio (pos 1082616) (pos 1000000000) *ᴿ r_xp /ᴿ r_a *ᴿ (of_ratio (pos 3) (pos 4) *ᴿ r_turning -ᴿ of_ratio (pos 3) (pos 1) *ᴿ r_steady)) }
+/// The share of the second harmonic in the bracket of C4. `xp` is xi over psi.
+pub(crate) fn share_of_j2<E: Enc>(xp: E, a: E) -> E
+    ensures { FollowsRatio2 E.Enc result share_of_j2 xp a }
+{
+    number::<E>(1_082_616, 1_000_000_000).times(xp).divided(a)
+}
+
+/// The bracket in C4, of its first part, that share and the two terms that the second harmonic makes.
+pub(crate) fn c4_bracket<E: Enc>(first: E, share: E, steady: E, turning: E) -> E
+    ensures { Follows4 E.Enc result c4_bracket first share steady turning }
 {
     let shape = number::<E>(3, 4)
         .times(turning)
         .minus(number::<E>(3, 1).times(steady));
-    first.minus(
-        number::<E>(1_082_616, 1_000_000_000)
-            .times(xp)
-            .divided(a)
-            .times(shape),
-    )
+    first.minus(share.times(shape))
 }
 
 /// The bracket in C5.
 pub(crate) fn c5_bracket<E: Enc>(et2: E, eeta: E) -> E
-    ensures { (h : Place) (x_et2 x_eeta : ℚ) (r_et2 r_eeta : Reach) → IsHeld E.covers E.extent E.tells et2 h x_et2 r_et2 → IsHeld E.covers E.extent E.tells eeta h x_eeta r_eeta → IsHeld E.covers E.extent E.tells result h (ratio (pos 1) 1 +ℚ ratio (pos 11) 4 *ℚ (x_et2 +ℚ x_eeta) +ℚ x_eeta *ℚ x_et2) (of_ratio (pos 1) (pos 1) +ᴿ of_ratio (pos 11) (pos 4) *ᴿ (r_et2 +ᴿ r_eeta) +ᴿ r_eeta *ᴿ r_et2) }
+    ensures { Follows2 E.Enc result c5_bracket et2 eeta }
 {
     number::<E>(1, 1)
         .plus(number::<E>(11, 4).times(et2.plus(eeta)))

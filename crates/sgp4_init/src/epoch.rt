@@ -1,11 +1,7 @@
 //! The angles of an element set at its epoch.
-ghost use Rattle.exact.specs.Rational.{ℚ};
 ghost use Rattle.elements.specs.Elements.{record_of_elements};
-ghost use Rattle.fixed_iv.specs.Place.{Place};
-ghost use Rattle.sgp4_model.specs.Angle.{IsPi};
-ghost use Rattle.sgp4_model.specs.EpochAngles.{EpochRecord, IsAtEpoch};
 ghost use Rattle.sgp4_motion.specs.Fate.{IsDragged};
-ghost use Rattle.sgp4_init.specs.HeldEpoch.{IsHeldEpoch};
+ghost use Rattle.sgp4_init.specs.HeldEpoch.{HoldsEpoch};
 
 use crate::given::{drag_term, radians};
 use elements::Elements;
@@ -35,7 +31,7 @@ pub(crate) struct Epoch<E> {
 /// What a set gives at its epoch.
 pub(crate) fn at_epoch<E: Enc>(set: &Elements) -> Epoch<E>
     requires { ¬ IsDragged (record_of_elements set.now) }
-    ensures { (h : Place) (pi : ℚ) (z : EpochRecord) → IsPi pi → IsAtEpoch (record_of_elements set.now) pi z → IsHeldEpoch E.covers E.extent E.tells result h z }
+    ensures { HoldsEpoch E.Enc (record_of_elements set.now) result }
 {
     let w0: E = radians(set.argp());
     let m0: E = radians(set.anomaly());

@@ -2,15 +2,14 @@
 ghost use Rattle.std.specs.Prelude.{◌≡◌, neg_ℤ, pos};
 ghost use Rattle.decimals.specs.Decimal.{value};
 ghost use Rattle.elements.specs.Elements.{IsFromTo};
-ghost use Rattle.exact.specs.Rational.{ℚ, abs_ℚ, ratio, zero_ℚ, ◌*ℚ◌, ◌/ℚ◌, ◌≤ℚ◌, ◌<ℚ◌};
+ghost use Rattle.exact.specs.Rational.{abs_ℚ, zero_ℚ, ◌/ℚ◌, ◌≤ℚ◌, ◌<ℚ◌};
+ghost use Rattle.fixed_iv.specs.Follows.{Encloses, EnclosesByPi};
 ghost use Rattle.fixed_iv.specs.Holds.{IsTightest};
 ghost use Rattle.fixed_iv.specs.Place.{Place};
-ghost use Rattle.fixed_iv.specs.Reach.{IsHeld};
-ghost use Rattle.sgp4_model.specs.Angle.{IsPi};
 ghost use Rattle.sgp4_model.specs.Degrees.{radians};
 ghost use Rattle.sgp4_model.specs.Drag.{near_circle};
 ghost use Rattle.sgp4_model.specs.Numerals.{decimal};
-ghost use Rattle.sgp4_init.specs.Numerals.{given_angle, given_drag, given_drag_over_eccentricity, given_perigee_drag};
+ghost use Rattle.sgp4_init.specs.Numerals.{given_angle, given_drag, given_drag_over_eccentricity, given_perigee_drag, perigee_factor};
 
 use elements::Decimal;
 use fixed_iv::{Enc, Iv};
@@ -19,7 +18,7 @@ use sgp4_motion::scaled;
 /// So many degrees in radians.
 pub(crate) fn radians<E: Enc>(degrees: Decimal) -> E
     requires { IsFromTo (neg_ℤ (pos 360)) (pos 360) (value degrees) }
-    ensures { (h : Place) (pi : ℚ) → IsPi pi → IsHeld E.covers E.extent E.tells result h (radians pi (value degrees)) given_angle }
+    ensures { EnclosesByPi E.Enc result (λ pi. radians pi (value degrees)) given_angle }
 {
     E::constant(scaled(degrees, 1, 180)).times(E::pi())
 }
@@ -27,7 +26,7 @@ pub(crate) fn radians<E: Enc>(degrees: Decimal) -> E
 /// The drag term.
 pub(crate) fn drag_term<E: Enc>(bstar: Decimal) -> E
     requires { abs_ℚ (value bstar) ≤ℚ decimal 1 3 }
-    ensures { (h : Place) → IsHeld E.covers E.extent E.tells result h (value bstar) given_drag }
+    ensures { (h : Place) → Encloses E.Enc result h (value bstar) given_drag }
 {
     E::constant(scaled(bstar, 1, 1))
 }
@@ -35,7 +34,7 @@ pub(crate) fn drag_term<E: Enc>(bstar: Decimal) -> E
 /// The drag term times -2 J3 / J2.
 pub(crate) fn perigee_drag_factor<E: Enc>(bstar: Decimal) -> E
     requires { abs_ℚ (value bstar) ≤ℚ decimal 1 3 }
-    ensures { (h : Place) → IsHeld E.covers E.extent E.tells result h (value bstar *ℚ ratio (pos 253881) 54130800) given_perigee_drag }
+    ensures { (h : Place) → Encloses E.Enc result h (perigee_factor (value bstar)) given_perigee_drag }
 {
     E::constant(scaled(bstar, 253_881, 54_130_800))
 }
@@ -44,7 +43,7 @@ pub(crate) fn perigee_drag_factor<E: Enc>(bstar: Decimal) -> E
 pub(crate) fn drag_over_eccentricity<E: Enc>(bstar: Decimal, ecc: Decimal) -> E
     requires drag { abs_ℚ (value bstar) ≤ℚ decimal 1 3 }
     requires eccentric { near_circle <ℚ value ecc }
-    ensures { (h : Place) → IsHeld E.covers E.extent E.tells result h (value bstar /ℚ value ecc) given_drag_over_eccentricity }
+    ensures { (h : Place) → Encloses E.Enc result h (value bstar /ℚ value ecc) given_drag_over_eccentricity }
 {
     E::constant(over(bstar, ecc))
 }

@@ -17,4 +17,7 @@ mod size;
 mod terms;
 
 pub use initial::prepare;
-pub use laws::constants_exist;
+pub use laws::{
+    accepted_constants_are_not_simple, constants_are_of_one_form, constants_exist,
+    constants_have_the_form_of_their_motion,
+};

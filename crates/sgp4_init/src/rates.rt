@@ -1,13 +1,7 @@
 //! The secular rates by oblateness.
-ghost use Rattle.std.specs.Prelude.{negsuc, pos, ◌≡◌};
-ghost use Rattle.exact.specs.Rational.{ℚ, ◌+ℚ◌, ◌-ℚ◌, ◌*ℚ◌, ◌/ℚ◌, ratio, zero_ℚ};
-ghost use Rattle.fixed_iv.specs.Place.{Place};
-ghost use Rattle.fixed_iv.specs.Reach.{Reach, IsHeld, ◌+ᴿ◌, ◌-ᴿ◌, ◌*ᴿ◌, ◌/ᴿ◌};
-ghost use Rattle.sgp4_model.specs.MeanMotion.{MotionRecord};
-ghost use Rattle.sgp4_model.specs.Rates.{IsMeanAnomalyRate, IsNodeRate, IsOblatenessFactors, IsPerigeeRate, RatesRecord};
-ghost use Rattle.sgp4_motion.specs.HeldMotion.{IsHeldMotion, MotionReach};
-ghost use Rattle.sgp4_init.specs.HeldRates.{IsHeldRates, reach_rates};
-ghost use Rattle.sgp4_init.specs.Numerals.{of_ratio};
+ghost use Rattle.fixed_iv.specs.Follows.{Follows2, Follows4, Follows5, Follows6, FollowsRatio1};
+ghost use Rattle.sgp4_init.specs.HeldRates.{HoldsRates};
+ghost use Rattle.sgp4_init.specs.RateLines.{first_factor, in_squares, inverse_square, mean_anomaly_rate, node_rate, perigee_rate, second_factor, third_factor};
 
 use crate::numbers::number;
 use fixed_iv::Enc;
@@ -28,7 +22,7 @@ pub(crate) struct Rates<E> {
 
 /// The secular rates.
 pub(crate) fn secular_rates<E: Enc>(motion: &Recovered<E>) -> Rates<E>
-    ensures { (h : Place) (m : MotionRecord) (f : RatesRecord) (r : MotionReach) → IsOblatenessFactors m f → IsMeanAnomalyRate m f → IsPerigeeRate m f → IsNodeRate m f → IsHeldMotion E.covers E.extent E.tells motion.now h m r → IsHeldRates E.covers E.extent E.tells result h f (reach_rates r) }
+    ensures { HoldsRates E.Enc motion.now result }
 {
     let m = motion;
     let ip2 = inverse_square(m.p);
@@ -49,28 +43,28 @@ pub(crate) fn secular_rates<E: Enc>(motion: &Recovered<E>) -> Rates<E>
 
 /// 1 over the square.
 pub(crate) fn inverse_square<E: Enc>(p: E) -> E
-    ensures { (h : Place) (x_p : ℚ) (r_p : Reach) → IsHeld E.covers E.extent E.tells p h x_p r_p → ¬ (x_p *ℚ x_p ≡ zero_ℚ) → IsHeld E.covers E.extent E.tells result h (ratio (pos 1) 1 /ℚ (x_p *ℚ x_p)) (of_ratio (pos 1) (pos 1) /ᴿ (r_p *ᴿ r_p)) }
+    ensures { FollowsRatio1 E.Enc result inverse_square p }
 {
     number::<E>(1, 1).divided(p.times(p))
 }
 
 /// The first common factor: 1.5 J2 n0 / p^2.
 pub(crate) fn first_factor<E: Enc>(n0: E, ip2: E) -> E
-    ensures { (h : Place) (x_n0 x_ip2 : ℚ) (r_n0 r_ip2 : Reach) → IsHeld E.covers E.extent E.tells n0 h x_n0 r_n0 → IsHeld E.covers E.extent E.tells ip2 h x_ip2 r_ip2 → IsHeld E.covers E.extent E.tells result h (ratio (pos 1623924) 1000000000 *ℚ x_n0 *ℚ x_ip2) (of_ratio (pos 1623924) (pos 1000000000) *ᴿ r_n0 *ᴿ r_ip2) }
+    ensures { Follows2 E.Enc result first_factor n0 ip2 }
 {
     number::<E>(1_623_924, 1_000_000_000).times(n0).times(ip2)
 }
 
 /// The second common factor: 0.5 w1 J2 / p^2.
 pub(crate) fn second_factor<E: Enc>(w1: E, ip2: E) -> E
-    ensures { (h : Place) (x_w1 x_ip2 : ℚ) (r_w1 r_ip2 : Reach) → IsHeld E.covers E.extent E.tells w1 h x_w1 r_w1 → IsHeld E.covers E.extent E.tells ip2 h x_ip2 r_ip2 → IsHeld E.covers E.extent E.tells result h (ratio (pos 541308) 1000000000 *ℚ x_w1 *ℚ x_ip2) (of_ratio (pos 541308) (pos 1000000000) *ᴿ r_w1 *ᴿ r_ip2) }
+    ensures { Follows2 E.Enc result second_factor w1 ip2 }
 {
     number::<E>(541_308, 1_000_000_000).times(w1).times(ip2)
 }
 
 /// The third common factor: -0.46875 J4 n0 / p^4.
 pub(crate) fn third_factor<E: Enc>(n0: E, ip2: E) -> E
-    ensures { (h : Place) (x_n0 x_ip2 : ℚ) (r_n0 r_ip2 : Reach) → IsHeld E.covers E.extent E.tells n0 h x_n0 r_n0 → IsHeld E.covers E.extent E.tells ip2 h x_ip2 r_ip2 → IsHeld E.covers E.extent E.tells result h (ratio (pos 2483955) 3200000000000 *ℚ x_n0 *ℚ x_ip2 *ℚ x_ip2) (of_ratio (pos 2483955) (pos 3200000000000) *ᴿ r_n0 *ᴿ r_ip2 *ᴿ r_ip2) }
+    ensures { Follows2 E.Enc result third_factor n0 ip2 }
 {
     number::<E>(2_483_955, 3_200_000_000_000)
         .times(n0)
@@ -80,7 +74,7 @@ pub(crate) fn third_factor<E: Enc>(n0: E, ip2: E) -> E
 
 /// A polynomial in the square of the cosine of the inclination.
 pub(crate) fn in_squares<E: Enc>(constant: E, square: E, fourth: E, c2: E) -> E
-    ensures { (h : Place) (x_constant x_square x_fourth x_c2 : ℚ) (r_constant r_square r_fourth r_c2 : Reach) → IsHeld E.covers E.extent E.tells constant h x_constant r_constant → IsHeld E.covers E.extent E.tells square h x_square r_square → IsHeld E.covers E.extent E.tells fourth h x_fourth r_fourth → IsHeld E.covers E.extent E.tells c2 h x_c2 r_c2 → IsHeld E.covers E.extent E.tells result h (x_constant -ℚ x_square *ℚ x_c2 +ℚ x_fourth *ℚ (x_c2 *ℚ x_c2)) (r_constant -ᴿ r_square *ᴿ r_c2 +ᴿ r_fourth *ᴿ (r_c2 *ᴿ r_c2)) }
+    ensures { Follows4 E.Enc result in_squares constant square fourth c2 }
 {
     constant
         .minus(square.times(c2))
@@ -89,7 +83,7 @@ pub(crate) fn in_squares<E: Enc>(constant: E, square: E, fourth: E, c2: E) -> E
 
 /// The rate of the mean anomaly.
 pub(crate) fn mean_anomaly_rate<E: Enc>(n0: E, w1: E, w2: E, b0: E, con41: E, shape: E) -> E
-    ensures { (h : Place) (x_n0 x_w1 x_w2 x_b0 x_con41 x_shape : ℚ) (r_n0 r_w1 r_w2 r_b0 r_con41 r_shape : Reach) → IsHeld E.covers E.extent E.tells n0 h x_n0 r_n0 → IsHeld E.covers E.extent E.tells w1 h x_w1 r_w1 → IsHeld E.covers E.extent E.tells w2 h x_w2 r_w2 → IsHeld E.covers E.extent E.tells b0 h x_b0 r_b0 → IsHeld E.covers E.extent E.tells con41 h x_con41 r_con41 → IsHeld E.covers E.extent E.tells shape h x_shape r_shape → IsHeld E.covers E.extent E.tells result h (x_n0 +ℚ ratio (pos 1) 2 *ℚ x_w1 *ℚ x_b0 *ℚ x_con41 +ℚ ratio (pos 1) 16 *ℚ x_w2 *ℚ x_b0 *ℚ x_shape) (r_n0 +ᴿ of_ratio (pos 1) (pos 2) *ᴿ r_w1 *ᴿ r_b0 *ᴿ r_con41 +ᴿ of_ratio (pos 1) (pos 16) *ᴿ r_w2 *ᴿ r_b0 *ᴿ r_shape) }
+    ensures { Follows6 E.Enc result mean_anomaly_rate n0 w1 w2 b0 con41 shape }
 {
     let first = number::<E>(1, 2).times(w1).times(b0).times(con41);
     let second = number::<E>(1, 16).times(w2).times(b0).times(shape);
@@ -98,7 +92,7 @@ pub(crate) fn mean_anomaly_rate<E: Enc>(n0: E, w1: E, w2: E, b0: E, con41: E, sh
 
 /// The rate of the argument of perigee.
 pub(crate) fn perigee_rate<E: Enc>(w1: E, w2: E, w3: E, con42: E, second: E, third: E) -> E
-    ensures { (h : Place) (x_w1 x_w2 x_w3 x_con42 x_second x_third : ℚ) (r_w1 r_w2 r_w3 r_con42 r_second r_third : Reach) → IsHeld E.covers E.extent E.tells w1 h x_w1 r_w1 → IsHeld E.covers E.extent E.tells w2 h x_w2 r_w2 → IsHeld E.covers E.extent E.tells w3 h x_w3 r_w3 → IsHeld E.covers E.extent E.tells con42 h x_con42 r_con42 → IsHeld E.covers E.extent E.tells second h x_second r_second → IsHeld E.covers E.extent E.tells third h x_third r_third → IsHeld E.covers E.extent E.tells result h (ratio (negsuc 0) 2 *ℚ x_w1 *ℚ x_con42 +ℚ ratio (pos 1) 16 *ℚ x_w2 *ℚ x_second +ℚ x_w3 *ℚ x_third) (of_ratio (negsuc 0) (pos 2) *ᴿ r_w1 *ᴿ r_con42 +ᴿ of_ratio (pos 1) (pos 16) *ᴿ r_w2 *ᴿ r_second +ᴿ r_w3 *ᴿ r_third) }
+    ensures { Follows6 E.Enc result perigee_rate w1 w2 w3 con42 second third }
 {
     let first = number::<E>(-1, 2).times(w1).times(con42);
     first
@@ -108,7 +102,7 @@ pub(crate) fn perigee_rate<E: Enc>(w1: E, w2: E, w3: E, con42: E, second: E, thi
 
 /// The rate of the node.
 pub(crate) fn node_rate<E: Enc>(w1: E, w2: E, w3: E, c: E, c2: E) -> E
-    ensures { (h : Place) (x_w1 x_w2 x_w3 x_c x_c2 : ℚ) (r_w1 r_w2 r_w3 r_c r_c2 : Reach) → IsHeld E.covers E.extent E.tells w1 h x_w1 r_w1 → IsHeld E.covers E.extent E.tells w2 h x_w2 r_w2 → IsHeld E.covers E.extent E.tells w3 h x_w3 r_w3 → IsHeld E.covers E.extent E.tells c h x_c r_c → IsHeld E.covers E.extent E.tells c2 h x_c2 r_c2 → IsHeld E.covers E.extent E.tells result h ((ratio (pos 1) 2 *ℚ x_w2 *ℚ (ratio (pos 4) 1 -ℚ ratio (pos 19) 1 *ℚ x_c2) +ℚ (x_w3 +ℚ x_w3) *ℚ (ratio (pos 3) 1 -ℚ ratio (pos 7) 1 *ℚ x_c2)) *ℚ x_c -ℚ x_w1 *ℚ x_c) ((of_ratio (pos 1) (pos 2) *ᴿ r_w2 *ᴿ (of_ratio (pos 4) (pos 1) -ᴿ of_ratio (pos 19) (pos 1) *ᴿ r_c2) +ᴿ (r_w3 +ᴿ r_w3) *ᴿ (of_ratio (pos 3) (pos 1) -ᴿ of_ratio (pos 7) (pos 1) *ᴿ r_c2)) *ᴿ r_c -ᴿ r_w1 *ᴿ r_c) }
+    ensures { Follows5 E.Enc result node_rate w1 w2 w3 c c2 }
 {
     let second = number::<E>(1, 2)
         .times(w2)

@@ -1,14 +1,11 @@
 //! The absolute value.
-ghost use Rattle.exact.specs.Rational.{ℚ, abs_ℚ};
-ghost use Rattle.fixed_iv.specs.Place.{Place};
-ghost use Rattle.fixed_iv.specs.Reach.{Reach, IsHeld};
-ghost use Rattle.sgp4_init.specs.Numerals.{sized};
+ghost use Rattle.sgp4_init.specs.HeldDensity.{IsSize};
 
 use fixed_iv::{Enc, Iv};
 
 /// The absolute value.
 pub(crate) fn size<E: Enc>(x: E) -> E
-    ensures { (h : Place) (y : ℚ) (r : Reach) → IsHeld E.covers E.extent E.tells x h y r → IsHeld E.covers E.extent E.tells result h (abs_ℚ y) (sized r) }
+    ensures { IsSize E.Enc x result }
 {
     let bounds = x.bounds();
     if bounds.lo > 0 {

@@ -1,13 +1,15 @@
-use Rattle.fixed_iv.proofs.Held.{plus_held, times_held}
+use Rattle.fixed_iv.proofs.Promises.{product, sum}
 use Rattle.sgp4_init.proofs.brackets.c5_bracket.Goals as goal
 
 pub returns : goal.returns
-returns g c h _ _ _ _ et2 eeta =
-    let law = g.met.E.Enc.contained in
-    let number_1 = c.number.ensures h in
-    let number_2 = c.number-2.ensures h in
-    let plus_1 = plus_held law c.plus.ensures.covers c.plus.ensures.narrow et2 eeta in
-    let times_1 = times_held law c.times.ensures.covers c.times.ensures.narrow number_2 plus_1 in
-    let plus_2 = plus_held law c.plus-2.ensures.covers c.plus-2.ensures.narrow number_1 times_1 in
-    let times_2 = times_held law c.times-2.ensures.covers c.times-2.ensures.narrow eeta et2 in
-    plus_held law c.plus-3.ensures.covers c.plus-3.ensures.narrow plus_2 times_2
+returns g c = record {
+  gives = λ et2 eeta.
+      let law = g.met.E.Enc.contained in
+      let number_1 = c.number.ensures _ in
+      let number_2 = c.number-2.ensures _ in
+      let plus_1 = sum law c.plus.ensures et2 eeta in
+      let times_1 = product law c.times.ensures number_2 plus_1 in
+      let plus_2 = sum law c.plus-2.ensures number_1 times_1 in
+      let times_2 = product law c.times-2.ensures eeta et2 in
+      sum law c.plus-3.ensures plus_2 times_2;
+}

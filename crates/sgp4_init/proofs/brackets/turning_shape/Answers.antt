@@ -1,16 +1,18 @@
-use Rattle.fixed_iv.proofs.Held.{minus_held, plus_held, times_held}
+use Rattle.fixed_iv.proofs.Promises.{difference, product, sum}
 use Rattle.sgp4_init.proofs.brackets.turning_shape.Goals as goal
 
 pub returns : goal.returns
-returns g c h _ _ _ _ _ _ _ _ of_c et2 eeta cosine =
-    let law = g.met.E.Enc.contained in
-    let plus_1 = plus_held law c.plus.ensures.covers c.plus.ensures.narrow et2 et2 in
-    let number_1 = c.number.ensures h in
-    let plus_2 = plus_held law c.plus-2.ensures.covers c.plus-2.ensures.narrow number_1 et2 in
-    let times_1 = times_held law c.times.ensures.covers c.times.ensures.narrow eeta plus_2 in
-    let inner = minus_held law c.minus-inner.ensures.covers c.minus-inner.ensures.narrow plus_1 times_1 in
-    let number_2 = c.number-2.ensures h in
-    let times_2 = times_held law c.times-2.ensures.covers c.times-2.ensures.narrow of_c of_c in
-    let minus_1 = minus_held law c.minus.ensures.covers c.minus.ensures.narrow number_2 times_2 in
-    let times_3 = times_held law c.times-3.ensures.covers c.times-3.ensures.narrow minus_1 inner in
-    times_held law c.times-4.ensures.covers c.times-4.ensures.narrow times_3 cosine
+returns g c = record {
+  gives = λ of_c et2 eeta cosine.
+      let law = g.met.E.Enc.contained in
+      let plus_1 = sum law c.plus.ensures et2 et2 in
+      let number_1 = c.number.ensures _ in
+      let plus_2 = sum law c.plus-2.ensures number_1 et2 in
+      let times_1 = product law c.times.ensures eeta plus_2 in
+      let inner = difference law c.minus-inner.ensures plus_1 times_1 in
+      let number_2 = c.number-2.ensures _ in
+      let times_2 = product law c.times-2.ensures of_c of_c in
+      let minus_1 = difference law c.minus.ensures number_2 times_2 in
+      let times_3 = product law c.times-3.ensures minus_1 inner in
+      product law c.times-4.ensures times_3 cosine;
+}

@@ -1,15 +1,17 @@
-use Rattle.fixed_iv.proofs.Held.{plus_held, times_held}
+use Rattle.fixed_iv.proofs.Promises.{product, sum}
 use Rattle.sgp4_init.proofs.rates.perigee_rate.Goals as goal
 
 pub returns : goal.returns
-returns g c h _ _ _ _ _ _ _ _ _ _ _ _ w1 w2 w3 con42 second third =
-    let law = g.met.E.Enc.contained in
-    let number_1 = c.number.ensures h in
-    let times_1 = times_held law c.times.ensures.covers c.times.ensures.narrow number_1 w1 in
-    let first = times_held law c.times-first.ensures.covers c.times-first.ensures.narrow times_1 con42 in
-    let number_2 = c.number-2.ensures h in
-    let times_2 = times_held law c.times-2.ensures.covers c.times-2.ensures.narrow number_2 w2 in
-    let times_3 = times_held law c.times-3.ensures.covers c.times-3.ensures.narrow times_2 second in
-    let plus_1 = plus_held law c.plus.ensures.covers c.plus.ensures.narrow first times_3 in
-    let times_4 = times_held law c.times-4.ensures.covers c.times-4.ensures.narrow w3 third in
-    plus_held law c.plus-2.ensures.covers c.plus-2.ensures.narrow plus_1 times_4
+returns g c = record {
+  gives = λ w1 w2 w3 con42 second third.
+      let law = g.met.E.Enc.contained in
+      let number_1 = c.number.ensures _ in
+      let times_1 = product law c.times.ensures number_1 w1 in
+      let first = product law c.times-first.ensures times_1 con42 in
+      let number_2 = c.number-2.ensures _ in
+      let times_2 = product law c.times-2.ensures number_2 w2 in
+      let times_3 = product law c.times-3.ensures times_2 second in
+      let plus_1 = sum law c.plus.ensures first times_3 in
+      let times_4 = product law c.times-4.ensures w3 third in
+      sum law c.plus-2.ensures plus_1 times_4;
+}

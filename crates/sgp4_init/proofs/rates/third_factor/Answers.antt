@@ -1,10 +1,12 @@
-use Rattle.fixed_iv.proofs.Held.{times_held}
+use Rattle.fixed_iv.proofs.Promises.{product}
 use Rattle.sgp4_init.proofs.rates.third_factor.Goals as goal
 
 pub returns : goal.returns
-returns g c h _ _ _ _ n0 ip2 =
-    let law = g.met.E.Enc.contained in
-    let number_1 = c.number.ensures h in
-    let times_1 = times_held law c.times.ensures.covers c.times.ensures.narrow number_1 n0 in
-    let times_2 = times_held law c.times-2.ensures.covers c.times-2.ensures.narrow times_1 ip2 in
-    times_held law c.times-3.ensures.covers c.times-3.ensures.narrow times_2 ip2
+returns g c = record {
+  gives = λ n0 ip2.
+      let law = g.met.E.Enc.contained in
+      let number_1 = c.number.ensures _ in
+      let times_1 = product law c.times.ensures number_1 n0 in
+      let times_2 = product law c.times-2.ensures times_1 ip2 in
+      product law c.times-3.ensures times_2 ip2;
+}
