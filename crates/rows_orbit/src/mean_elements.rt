@@ -102,3 +102,20 @@ fn mean_elements_are_given_inside_the_guard_alone(rt: HostRuntime) {
         }
     }
 }
+
+/// Semimajor axes a million units to each side of an Earth radius, and whether they are inside the guard.
+const NEXT_TO_AN_EARTH_RADIUS: [(i64, bool); 2] = [
+    (281_474_975_710_656, false),
+    (281_474_977_710_656, true),
+];
+
+#[test]
+fn mean_elements_are_given_from_an_earth_radius_on_alone(rt: HostRuntime) {
+    for row in ROWS.iter() {
+        let mut consts: Consts<Plain> = consts_of(&row.0);
+        for (a, inside) in NEXT_TO_AN_EARTH_RADIUS {
+            consts.a = unit(a);
+            assert!(rt; mean_at(&consts, 0).is_some() == inside);
+        }
+    }
+}

@@ -137,9 +137,11 @@ fn positions_at_a_time_hold_the_values_from_outside(rt: HostRuntime) {
 }
 
 /// The semimajor axis and the eccentricity in place of those of a row, in units of 2^-48.
-const OUTSIDE: [(i64, i64); 4] = [
+const OUTSIDE: [(i64, i64); 5] = [
     // an orbit below 1 Earth radius
     (225_179_981_368_525, 56_294_995_342_131),
+    // a circle at 1.01 Earth radii
+    (284_289_726_477_762, 281_474_977),
     // a semimajor axis of 0, and one below 0
     (0, 281_474_977),
     (-281_474_976_710_656, 281_474_977),
@@ -158,5 +160,20 @@ fn no_position_outside_the_guards(rt: HostRuntime) {
             mean.em = unit(eccentricity);
             assert!(rt; place_of(&consts, &mean).is_none());
         }
+    }
+}
+
+/// A semimajor axis of 1.03 Earth radii, and an eccentricity of a millionth.
+const CIRCLE_OUTSIDE: (i64, i64) = (289_919_226_011_975, 281_474_977);
+
+#[test]
+fn positions_from_the_least_distance_on(rt: HostRuntime) {
+    for set in 0..SETS {
+        let (start, row) = places_of(set, 4);
+        let consts: Consts<Plain> = consts_of(start);
+        let mut mean: Mean<Plain> = mean_of(row + 1);
+        mean.am = unit(CIRCLE_OUTSIDE.0);
+        mean.em = unit(CIRCLE_OUTSIDE.1);
+        assert!(rt; place_of(&consts, &mean).is_some());
     }
 }

@@ -1,4 +1,4 @@
--- The guard on the eccentricity, by the ends of its bounds.
+-- The guards on the eccentricity and on the semimajor axis, by the ends of their bounds.
 use Rattle.std.proofs.Common.{[], ◌∷◌, arith, ℤ, pos, negsuc, ◌≤ℤ◌, ◌<ℤ◌, ◌*ℤ◌, ◌^◌, T, not, Bool, true, false}
 use Rattle.std.proofs.lemmas.Int.{ints, by_lt_z}
 use native.Mathlib.Nat.{zero-lt-suc}
@@ -11,7 +11,7 @@ use Rattle.exact.proofs.Strict.{lt_by, positive_known, positive_sum}
 use Rattle.fixed_iv.specs.Ends.{in_units}
 use Rattle.fixed_iv.specs.Holds.{Holds}
 use Rattle.fixed_iv.specs.declared.iv.Iv.{Iv}
-use Rattle.sgp4_drag.specs.Guard.{IsInsideGuard}
+use Rattle.sgp4_drag.specs.Guard.{AreAtLeast1, IsInsideGuard}
 use Rattle.sgp4_model.specs.MeanElements.{IsEccentricityGuarded}
 use Rattle.sgp4_model.specs.Numerals.{decimal}
 
@@ -28,7 +28,8 @@ low_above n h =
     by_cross : (n : ℤ) → (negsuc 0 *ℤ pos 281474976710656) ≤ℤ (n *ℤ pos 1000) → negsuc 281474976709 ≤ℤ n
     by_cross n h = omega (arith, ints, h)
 
-one_below : (n : ℤ) → one_ℚ ≤ℚ ratio n (2 ^ 48) → pos 281474976710656 ≤ℤ n
+-- ---- at least 1
+pub one_below : (n : ℤ) → one_ℚ ≤ℚ ratio n (2 ^ 48) → pos 281474976710656 ≤ℤ n
 unfolding number ratio
 one_below n h =
     by_cross n (cross_of_le (record { num = pos 1; den = 1; fits = zero-lt-suc 0 }) (record { num = n; den = 281474976710656; fits = zero-lt-suc 281474976710655 }) h)
@@ -36,10 +37,11 @@ one_below n h =
     by_cross : (n : ℤ) → (pos 1 *ℤ pos 281474976710656) ≤ℤ (n *ℤ pos 1) → pos 281474976710656 ≤ℤ n
     by_cross n h = omega (arith, ints, h)
 
-one_above : (n : ℤ) → pos 281474976710656 ≤ℤ n → one_ℚ ≤ℚ ratio n (2 ^ 48)
+pub one_above : (n : ℤ) → pos 281474976710656 ≤ℤ n → one_ℚ ≤ℚ ratio n (2 ^ 48)
 unfolding number ratio
 one_above n h = le_of_cross (record { num = pos 1; den = 1; fits = zero-lt-suc 0 }) (record { num = n; den = 281474976710656; fits = zero-lt-suc 281474976710655 }) (omega (arith, ints, h))
 
+-- ---- the eccentricity
 by_test : {P : Type 0} (t : Bool) → (T t → P) → (T (not t) → P) → P
 by_test true f g = f tt
 by_test false f g = g tt
@@ -85,3 +87,14 @@ held_guarded v x inside held =
     units_guarded x
     (le_trans (of_int_le ends.0) (held.low (omega (arith, ints, ends.0))))
     (le_trans (held.high (omega (arith, ints, ends.1))) (of_int_le (omega (arith, ints, ends.1))))
+
+-- what bounds of at least 1 hold is at least 1
+units_at_least_1 : (x : ℚ) → of_int (pos 281474976710656) ≤ℚ in_units x → one_ℚ ≤ℚ x
+units_at_least_1 x f =
+    let low = rw (of_int_is (pos 281474976710656)) at f in
+    le_by (x ∷ []) (known 1 281474976710656 ⊗ gap low) (search reads depth 90) tt
+
+pub held_at_least_1 : (v : Iv) (x : ℚ) → AreAtLeast1 v → Holds v x → one_ℚ ≤ℚ x
+held_at_least_1 v x inside held =
+    let end = one_below v.lo inside in
+    units_at_least_1 x (le_trans (of_int_le end) (held.low (omega (arith, ints, end))))

@@ -1,3 +1,4 @@
 mod AnomalyLemmas
+mod AxisLemmas
 mod GuardLemmas
 mod SecularLemmas

@@ -4,6 +4,7 @@
 mod angles;
 mod eccentricity;
 mod factors;
+mod guard;
 mod mean;
 
 pub use mean::secular;

@@ -10,7 +10,7 @@ use Rattle.exact.proofs.Strict.{lt_by, positive_known, positive_sum}
 use Rattle.sgp4_model.specs.Angle.{IsNear, IsSinCos, Pair, part}
 use Rattle.sgp4_model.specs.Numerals.{IsDivisor}
 use Rattle.sgp4_model.specs.OrbitRecords.{ConstRecord, MeanRecord}
-use Rattle.sgp4_model.specs.Position.{PeriodicRecord}
+use Rattle.sgp4_model.specs.Position.{PeriodicRecord, least_distance}
 use Rattle.fixed_iv.specs.Ends.{in_units, no_low, no_high}
 use Rattle.fixed_iv.specs.Extent.{size}
 use Rattle.fixed_iv.specs.Holds.{Holds, IsBounded}
@@ -19,8 +19,8 @@ use Rattle.fixed_iv.proofs.EndLemmas.{at}
 use Rattle.kepler_enc.specs.Guard.{IsUnguarded}
 use Rattle.kepler_enc.proofs.SizeLemmas.{near_size, sizes_add}
 use Rattle.sgp4_periodic.specs.Ellipse.{IsEllipse}
-use Rattle.sgp4_periodic.specs.Guards.{AreAtLeast1, LieAbove0}
-use Rattle.sgp4_periodic.proofs.GuardLemmas.{not_below_1, one_below}
+use Rattle.sgp4_periodic.specs.Guards.{AreDistant, LieAbove0}
+use Rattle.sgp4_periodic.proofs.GuardLemmas.{not_below_1, distant_below}
 
 -- ---- the quantities before Kepler's equation; those after it are 0
 module _ (k : ConstRecord) (m : MeanRecord) (turn : Pair) (ax ay : ℚ) where
@@ -112,13 +112,13 @@ rectum_positive v pl above held = by_unit pl (le_trans (of_int_le least) (held.l
         let low = rw (of_int_is (pos 1)) at h in
         lt_by (pl ∷ []) (positive_sum (positive_known 0 281474976710656) (known 1 281474976710656 ⊗ gap low)) (search reads depth 90) tt
 
-pub distance_guarded : (v : Iv) (mrt : ℚ) → AreAtLeast1 v → Holds v mrt → one_ℚ ≤ℚ mrt
+pub distance_guarded : (v : Iv) (mrt : ℚ) → AreDistant v → Holds v mrt → least_distance ≤ℚ mrt
 distance_guarded v mrt above held = by_units mrt (le_trans (of_int_le least) (held.low (omega (arith, ints, least))))
   where
-    least : pos 281474976710656 ≤ℤ v.lo
-    least = one_below v.lo above
+    least : pos 287104476244870 ≤ℤ v.lo
+    least = distant_below v.lo above
 
-    by_units : (mrt : ℚ) → of_int (pos 281474976710656) ≤ℚ in_units mrt → one_ℚ ≤ℚ mrt
+    by_units : (mrt : ℚ) → of_int (pos 287104476244870) ≤ℚ in_units mrt → least_distance ≤ℚ mrt
     by_units mrt h =
-        let low = rw (of_int_is (pos 281474976710656)) at h in
-        le_by (mrt ∷ []) (known 1 281474976710656 ⊗ gap low) (search reads depth 90) tt
+        let low = rw (of_int_is (pos 287104476244870)) at h in
+        le_by (mrt ∷ []) (known 1 281474976710656 ⊗ gap low ⊕ known 11 3518437208883200) (search reads depth 90) tt

@@ -2,20 +2,21 @@
 use Rattle.std.proofs.Common.{arith, ℤ, pos, ◌≤ℤ◌, ◌*ℤ◌, ◌^◌, T, not, Bool, true, false}
 use Rattle.std.proofs.lemmas.Int.{ints, by_lt_z}
 use native.Mathlib.Nat.{zero-lt-suc}
-use Rattle.exact.specs.Rational.{ratio, number, one_ℚ, zero_ℚ, ◌≤ℚ◌, ◌<ℚ◌, ◌-ℚ◌, at_least_0}
+use Rattle.exact.specs.Rational.{ratio, number, zero_ℚ, ◌≤ℚ◌, ◌<ℚ◌, ◌-ℚ◌, at_least_0}
 use Rattle.exact.proofs.Fractions.{le_of_cross, cross_of_le}
+use Rattle.sgp4_model.specs.Position.{least_distance}
 
--- ---- at least 1
-pub one_above : (n : ℤ) → pos 281474976710656 ≤ℤ n → one_ℚ ≤ℚ ratio n (2 ^ 48)
+-- ---- at least 1.02: of 2^48 units that are 287104476244869.1..
+pub distant_above : (n : ℤ) → pos 287104476244870 ≤ℤ n → least_distance ≤ℚ ratio n (2 ^ 48)
 unfolding number ratio
-one_above n h = le_of_cross (record { num = pos 1; den = 1; fits = zero-lt-suc 0 }) (record { num = n; den = 281474976710656; fits = zero-lt-suc 281474976710655 }) (omega (arith, ints, h))
+distant_above n h = le_of_cross (record { num = pos 102; den = 100; fits = zero-lt-suc 99 }) (record { num = n; den = 281474976710656; fits = zero-lt-suc 281474976710655 }) (omega (arith, ints, h))
 
-pub one_below : (n : ℤ) → one_ℚ ≤ℚ ratio n (2 ^ 48) → pos 281474976710656 ≤ℤ n
+pub distant_below : (n : ℤ) → least_distance ≤ℚ ratio n (2 ^ 48) → pos 287104476244870 ≤ℤ n
 unfolding number ratio
-one_below n h =
-    by_cross n (cross_of_le (record { num = pos 1; den = 1; fits = zero-lt-suc 0 }) (record { num = n; den = 281474976710656; fits = zero-lt-suc 281474976710655 }) h)
+distant_below n h =
+    by_cross n (cross_of_le (record { num = pos 102; den = 100; fits = zero-lt-suc 99 }) (record { num = n; den = 281474976710656; fits = zero-lt-suc 281474976710655 }) h)
   where
-    by_cross : (n : ℤ) → (pos 1 *ℤ pos 281474976710656) ≤ℤ (n *ℤ pos 1) → pos 281474976710656 ≤ℤ n
+    by_cross : (n : ℤ) → (pos 102 *ℤ pos 281474976710656) ≤ℤ (n *ℤ pos 100) → pos 287104476244870 ≤ℤ n
     by_cross n h = omega (arith, ints, h)
 
 -- ---- above 0

@@ -1,6 +1,6 @@
 //! The guards on the semilatus rectum and on the distance.
 ghost use Rattle.std.specs.Prelude.{◌↔◌, IsTrue};
-ghost use Rattle.sgp4_periodic.specs.Guards.{AreAtLeast1, LieAbove0};
+ghost use Rattle.sgp4_periodic.specs.Guards.{AreDistant, LieAbove0};
 
 use fixed_iv::Iv;
 
@@ -11,9 +11,9 @@ pub(crate) fn lie_above_0(bounds: Iv) -> bool
     bounds.lo >= 1
 }
 
-/// Whether the bounds are at least 1.
-pub(crate) fn are_at_least_1(bounds: Iv) -> bool
-    ensures { IsTrue result ↔ AreAtLeast1 bounds }
+/// Whether the bounds are at least the least distance that is taken, 1.02.
+pub(crate) fn are_distant(bounds: Iv) -> bool
+    ensures { IsTrue result ↔ AreDistant bounds }
 {
-    bounds.lo >= 281_474_976_710_656
+    bounds.lo >= 287_104_476_244_870
 }

@@ -17,7 +17,7 @@ ghost use Rattle.sgp4_periodic.specs.Unplaced.{IsUnplaced};
 
 use crate::corrected::corrected_at;
 use crate::ellipse::ellipse_of;
-use crate::guard::{are_at_least_1, lie_above_0};
+use crate::guard::{are_distant, lie_above_0};
 use crate::position::position;
 use fixed_iv::{Enc, Vec3};
 use kepler_enc::kepler;
@@ -25,7 +25,7 @@ use sgp4_shape::{Consts, Mean};
 
 /// The position of the mean elements, in Earth radii, in the frame of the true equator and the mean equinox. None where
 /// Kepler's equation may have no single root, or the bounds of the semilatus rectum do not lie above 0, or those of the
-/// distance are not at least 1.
+/// distance are not at least 1.02.
 pub fn place<E: Enc>(consts: &Consts<E>, mean: &Mean<E>) -> Option<Vec3<E>>
     ensures covers { IfSome result (λ position. (h : Place) (pi root : ℚ) (k : ConstRecord) (m : MeanRecord) (v : Vector) → IsPi pi → CoversConsts E.covers consts.now k → CoversMean E.covers mean.now h m → IsPosition k m pi root v → CoversPosition E.covers position h v) }
     ensures held { IfSome result (λ position. (h : Place) (pi root : ℚ) (k : ConstRecord) (m : MeanRecord) (v : Vector) (r : ConstReach) (n : MeanReach) (b : PositionBox) → IsPi pi → IsHeldConsts E.covers E.extent E.tells consts.now h k r → IsHeldMean E.covers E.extent E.tells mean.now h m n → (p : IsPosition k m pi root v) → IsInBox p.periodic b → IsHeldPosition E.covers E.extent E.tells position h v (reach_place r n b)) }
@@ -38,7 +38,7 @@ pub fn place<E: Enc>(consts: &Consts<E>, mean: &Mean<E>) -> Option<Vec3<E>>
         return None;
     }
     let at = corrected_at(consts, mean, &ellipse, root);
-    if !are_at_least_1(at.mrt.bounds()) {
+    if !are_distant(at.mrt.bounds()) {
         return None;
     }
     Some(position(&at))

@@ -21,15 +21,15 @@ returns-then-not-lie_above_0-clause-none g c = inl (record {
   outside = inr (λ above. untrue c.if-not-lie_above_0.true (c.lie_above_0.ensures.1 (rw c.bounds.ensures above)));
 })
 
-pub returns-then-not-are_at_least_1-clause-none : goal.returns-then-not-are_at_least_1-clause-none
-returns-then-not-are_at_least_1-clause-none g c = inr (record {
+pub returns-then-not-are_distant-clause-none : goal.returns-then-not-are_distant-clause-none
+returns-then-not-are_distant-clause-none g c = inr (record {
   mrt = c.corrected_at-at.result.mrt;
   held = λ h pi angle k m q v r n b is_pi consts mean p in_box.
       let ellipse = c.ellipse_of-ellipse.ensures h pi k m q r n is_pi consts mean (ellipse_of_position p) in
       let root = c.in_ok-root.ensures.held h pi _ _ _ angle _ _ _ b.vector is_pi ellipse.u ellipse.ax ellipse.ay in_box.vector (record { turn = _; solves = p.kepler }) in
       let at = c.corrected_at-at.ensures h pi angle k m q v _ _ _ _ b is_pi consts mean ellipse root p (λ _. in_box) in
       at.mrt;
-  low = λ above. untrue c.if-not-are_at_least_1.true (c.are_at_least_1.ensures.1 (rw c.bounds-2.ensures above));
+  low = λ above. untrue c.if-not-are_distant.true (c.are_distant.ensures.1 (rw c.bounds-2.ensures above));
 })
 
 pub returns-clause-held : goal.returns-clause-held
@@ -63,5 +63,5 @@ returns-clause-exists g c h pi k m is_pi consts mean divides =
     let ellipse = c.ellipse_of-ellipse.ensures h pi k m q _ _ is_pi of_consts of_mean (ellipse_of_position p) in
     let root = c.in_ok-root.ensures.covers h pi _ _ _ found.0 is_pi ellipse.u.covers ellipse.ax.covers ellipse.ay.covers (record { turn = _; solves = p.kepler }) in
     let at = c.corrected_at-at.ensures h pi found.0 k m q v _ _ _ _ no_box is_pi of_consts of_mean ellipse (covered root) p (λ u. absurd u) in
-    let far = rw c.bounds-2.ensures at (c.are_at_least_1.ensures.0 (grind (arith, c.if-not-are_at_least_1.false))) in
+    let far = rw c.bounds-2.ensures at (c.are_distant.ensures.0 (grind (arith, c.if-not-are_distant.false))) in
     (found.0, (v, record { periodic = q; unguarded = p; guarded = distance_guarded _ q.mrt far (law _ h q.mrt at.mrt.covers) }))

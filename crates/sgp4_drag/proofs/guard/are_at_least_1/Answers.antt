@@ -1,7 +1,7 @@
 use Rattle.std.proofs.Common.{arith}
 use Rattle.std.proofs.lemmas.Int.{to_z-of_z}
-use Rattle.sgp4_periodic.proofs.GuardLemmas.{one_above, one_below}
-use Rattle.sgp4_periodic.proofs.guard.are_at_least_1.Goals as goal
+use Rattle.sgp4_drag.proofs.GuardLemmas.{one_above, one_below}
+use Rattle.sgp4_drag.proofs.guard.are_at_least_1.Goals as goal
 
 pub returns : goal.returns
 returns c = (

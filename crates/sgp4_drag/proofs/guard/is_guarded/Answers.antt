@@ -1,7 +1,7 @@
 use Rattle.std.proofs.lemmas.Int.{to_z-of_z}
 use Rattle.std.proofs.Common.{arith}
 use Rattle.sgp4_drag.proofs.GuardLemmas.{guard_of_ends, ends_of_guard}
-use Rattle.sgp4_drag.proofs.eccentricity.is_guarded.Goals as goal
+use Rattle.sgp4_drag.proofs.guard.is_guarded.Goals as goal
 
 pub returns-then-bounds-geminus281474976710 : goal.returns-then-bounds-geminus281474976710
 returns-then-bounds-geminus281474976710 c =
