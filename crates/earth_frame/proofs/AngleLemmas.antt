@@ -1,14 +1,13 @@
 -- The sidereal angle as the code forms it.
-use Rattle.std.proofs.Common.{◌≡◌, ℕ, ◌+◌, ◌*◌, ◌^◌, arith, [], ◌∷◌, sym, subst, ap, ◌∙◌, ℤ, pos, ◌≤ℤ◌, ◌+ℤ◌, le_trans as nat_trans}
+use Rattle.std.proofs.Common.{◌≡◌, ℕ, ◌+◌, ◌*◌, arith, [], ◌∷◌, ℤ, pos, ◌≤ℤ◌, ◌+ℤ◌}
 use Rattle.std.proofs.lemmas.Int.{ints}
-use Rattle.exact.specs.Rational.{ℚ, ◌+ℚ◌, ◌-ℚ◌, ◌*ℚ◌, of_int, ratio, ◌≤ℚ◌}
+use Rattle.exact.specs.Rational.{ℚ, ◌+ℚ◌, ◌-ℚ◌, ◌*ℚ◌, ratio}
 use Rattle.exact.proofs.RationalRing.{ring, reads}
 use Rattle.exact.proofs.Order.{le_by, le_trans, gap, known, ◌⊕◌, ◌⊗◌}
 use Rattle.exact.proofs.Integers.{le_of_int, of_int_is}
 use Rattle.sgp4_model.specs.Angle.{IsPi, least_pi}
 use Rattle.sgp4_model.specs.Sidereal.{centuries, sidereal_angle, sidereal_seconds}
 use Rattle.sgp4_model.specs.Time.{instant_of_nanos}
-use Rattle.fixed_iv.specs.Ends.{in_units}
 use Rattle.fixed_iv.specs.Extent.{Extent}
 use Rattle.earth_frame.specs.Spread.{IsSpreadWithin}
 use Rattle.fixed_iv.specs.Holds.{Holds, IsBounded}

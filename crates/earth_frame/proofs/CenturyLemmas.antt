@@ -1,14 +1,13 @@
 -- The centuries at an instant after a base, and how large they are.
-use Rattle.std.proofs.Common.{◌≡◌, refl, arith, ◌^◌, to_z, of_z, [], ◌∷◌, sym, ap, ◌∙◌, ℤ, pos, ◌≤ℤ◌}
+use Rattle.std.proofs.Common.{◌≡◌, ◌^◌, [], ◌∷◌, sym, ap, ◌∙◌, ℤ, pos, ◌+ℤ◌, ◌-ℤ◌}
 use Rattle.exact.specs.Rational.{ℚ, ◌+ℚ◌, ◌*ℚ◌, neg_ℚ, of_int, ratio, ◌≤ℚ◌}
 use Rattle.exact.proofs.RationalRing.{ring, reads}
 use Rattle.exact.proofs.Order.{le_by, gap, known, ◌⊕◌, ◌⊗◌}
 use Rattle.exact.proofs.Intervals.{le_on}
-use Rattle.std.proofs.lemmas.Int.{ints}
-use Rattle.std.specs.Int.{w64, w128}
 use Rattle.exact.proofs.Integers.{of_int_is, of_int_le, ratio_is_product}
-use Rattle.civil_time.specs.Scale.{IsInstant, first_instant, last_instant}
+use Rattle.civil_time.specs.Scale.{first_instant, last_instant}
 use Rattle.sgp4_model.specs.Sidereal.{centuries}
+use Rattle.earth_frame.specs.Offset.{IsNearInstant}
 use Rattle.earth_frame.specs.Over.{instant_after}
 use Rattle.earth_frame.proofs.SlimLemmas.{IsLittle}
 
@@ -19,13 +18,13 @@ centuries_are b x =
     ∙ ap (λ t. t +ℚ x *ℚ ratio (pos 512) 1643625) (sym (ratio_is_product b 3155760000000000000))
 
 -- the centuries at a base of the years of instants
-pub little_base : (b : ℤ) → IsInstant b → IsLittle 160600000000000 (ratio b 3155760000000000000)
+pub little_base : (b : ℤ) → IsNearInstant b → IsLittle 160600000000000 (ratio b 3155760000000000000)
 little_base b h =
-    let low : ratio first_instant 1 ≤ℚ of_int b = rw (sym (of_int_is first_instant)) (of_int_le h.0) in
-    let high : of_int b ≤ℚ ratio last_instant 1 = rw (sym (of_int_is last_instant)) (of_int_le h.1) in
+    let low : ratio (first_instant -ℤ pos 900000000) 1 ≤ℚ of_int b = rw (sym (of_int_is (first_instant -ℤ pos 900000000))) (of_int_le h.low) in
+    let high : of_int b ≤ℚ ratio (last_instant +ℤ pos 900000000) 1 = rw (sym (of_int_is (last_instant +ℤ pos 900000000))) (of_int_le h.high) in
     rw (ratio_is_product b 3155760000000000000) (record {
-      low = rw (of_int_is (pos 160600000000000)) (le_by (of_int b ∷ []) (known 281474976710656 3155760000000000000 ⊗ gap low ⊕ known 124866122682596445388800000000000 3155760000000000000) (search reads depth 90) tt);
-      high = rw (of_int_is (pos 160600000000000)) (le_by (of_int b ∷ []) (known 281474976710656 3155760000000000000 ⊗ gap high ⊕ known 496516812983776332674976710656 3155760000000000000) (search reads depth 90) tt);
+      low = rw (of_int_is (pos 160600000000000)) (le_by (of_int b ∷ []) (known 281474976710656 3155760000000000000 ⊗ gap low ⊕ known 124866122429268966349209600000000 3155760000000000000) (search reads depth 90) tt);
+      high = rw (of_int_is (pos 160600000000000)) (le_by (of_int b ∷ []) (known 281474976710656 3155760000000000000 ⊗ gap high ⊕ known 496516559656297293084576710656 3155760000000000000) (search reads depth 90) tt);
     })
 
 -- a half of 16,384 minutes over a century
@@ -35,7 +34,3 @@ little_rate = record {
   low = le_on (10 ^ 30) [] [] tt (search reads depth 90) tt;
   high = le_on (10 ^ 30) [] [] tt (search reads depth 90) tt;
 }
-
--- an instant's nanoseconds are kept by wider types
-pub kept_instant : (b : ℤ) → IsInstant b → to_z w128 (of_z w128 (to_z w64 (of_z w64 b))) ≡ b
-kept_instant b h = omega (arith, ints, h.0, h.1)

@@ -1,5 +1,5 @@
 -- Whole turns off a ratio, and off an angle.
-use Rattle.std.proofs.Common.{◌≡◌, refl, arith, ℕ, zero, suc, negsuc, SFits, ◌*◌, ◌+◌, ◌≤◌, ◌<◌, [], ◌∷◌, sym, subst, ap, ◌∙◌, ℤ, pos, neg_ℤ, ◌+ℤ◌, ◌*ℤ◌, ◌≤ℤ◌, ◌<ℤ◌, unsigned_abs, to_z, of_z}
+use Rattle.std.proofs.Common.{◌≡◌, refl, arith, ℕ, zero, suc, negsuc, SFits, ◌+◌, ◌<◌, [], ◌∷◌, sym, subst, ap, ◌∙◌, ℤ, pos, neg_ℤ, ◌+ℤ◌, ◌*ℤ◌, ◌≤ℤ◌, ◌<ℤ◌, unsigned_abs, to_z, of_z}
 use Rattle.exact.proofs.Order.{le_by, gap, known, ◌⊕◌, ◌⊗◌}
 use Rattle.exact.proofs.Bounds.{abs_le}
 use Rattle.fixed_iv.specs.Ends.{in_units}

@@ -1,8 +1,9 @@
 mod AngleLemmas
 mod CenturyLemmas
 mod HalfTurnLemmas
-mod SlimLemmas
+pub mod OffsetLemmas
+pub mod SlimLemmas
 mod SlowLemmas
-mod SpreadLemmas
+pub mod SpreadLemmas
 mod StartLemmas
 mod SunLemmas

@@ -8,7 +8,7 @@ use Rattle.exact.proofs.Order.{le_by, le_trans, gap, known, ◌⊕◌, ◌⊗◌
 use Rattle.exact.proofs.Bounds.{abs_le}
 use Rattle.exact.proofs.Integers.{of_int_le, le_of_int, of_int_add, of_int_neg, of_int_is}
 use Rattle.fixed_iv.specs.Ends.{in_units}
-use Rattle.fixed_iv.specs.Extent.{AreSmall, extent_of, size, width_of}
+use Rattle.fixed_iv.specs.Extent.{AreSmall, size, width_of}
 use Rattle.fixed_iv.specs.Holds.{Holds, IsBounded, IsTightest}
 use Rattle.fixed_iv.specs.Results.{IsDifference, IsProduct, IsResultOf, IsSum}
 use Rattle.fixed_iv.specs.declared.iv.Iv.{Iv}
@@ -71,7 +71,7 @@ little_sum s t most x y h k l =
     sums : of_int (pos (s + t)) ≤ℚ of_int (pos most) → natural s +ℚ natural t ≤ℚ natural most
     sums e = rw (sym (natural_add s t)) e
 
-little_neg : (s : ℕ) (x : ℚ) → IsLittle s x → IsLittle s (neg_ℚ x)
+pub little_neg : (s : ℕ) (x : ℚ) → IsLittle s x → IsLittle s (neg_ℚ x)
 little_neg s x h = record {
   low = le_by (natural s ∷ x ∷ []) (gap h.high) (search reads depth 90) tt;
   high = le_by (natural s ∷ x ∷ []) (gap h.low) (search reads depth 90) tt;

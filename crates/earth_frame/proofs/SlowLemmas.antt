@@ -1,5 +1,5 @@
 -- The terms of the sidereal angle in the square and the cube of time.
-use Rattle.std.proofs.Common.{◌≡◌, ◌^◌, [], ◌∷◌, subst, ℤ, pos}
+use Rattle.std.proofs.Common.{◌^◌, [], ◌∷◌, subst, pos}
 use Rattle.exact.specs.Rational.{ℚ, ◌+ℚ◌, ◌-ℚ◌, ◌*ℚ◌, neg_ℚ, of_int, ratio}
 use Rattle.exact.proofs.RationalRing.{ring, reads}
 use Rattle.exact.proofs.Intervals.{le_on}

@@ -1,25 +1,23 @@
 -- How far the spreads of enclosures go after products and sums, where the spread of one argument is a variable.
-use Rattle.std.proofs.Common.{◌≡◌, refl, arith, ⊎_elim, ℕ, ◌+◌, ◌*◌, ◌^◌, ◌≤◌, [], ◌∷◌, ℤ, pos, neg_ℤ, ◌≤ℤ◌, ◌-ℤ◌, ◌+ℤ◌, le_trans as nat_trans, le_refl, T}
+use Rattle.std.proofs.Common.{◌≡◌, arith, ⊎_elim, ℕ, ◌+◌, ◌*◌, ◌≤◌, [], ◌∷◌, pos, neg_ℤ, ◌≤ℤ◌, le_trans as nat_trans, le_refl}
 use Rattle.std.proofs.Math.Nat.{mul-le-mul}
 use Rattle.std.proofs.lemmas.Int.{ints}
-use Rattle.exact.specs.Rational.{ℚ, ◌+ℚ◌, ◌*ℚ◌, neg_ℚ, abs_ℚ, of_int, ratio, zero_ℚ, one_ℚ, ◌≤ℚ◌}
+use Rattle.exact.specs.Rational.{ℚ, ◌+ℚ◌, ◌-ℚ◌, ◌*ℚ◌, abs_ℚ, ratio, zero_ℚ, one_ℚ, ◌≤ℚ◌}
 use Rattle.exact.proofs.RationalRing.{reads}
 use Rattle.exact.proofs.Order.{le_by, le_trans, gap, known, ◌⊕◌, ◌⊗◌}
 use Rattle.exact.proofs.Bounds.{abs_le}
 use Rattle.sgp4_model.specs.Angle.{IsNear, part}
 use Rattle.sgp4_model.proofs.Pythagoras.{sine_pairs_are_bounded}
 use Rattle.exact.proofs.Integers.{le_of_int, of_int_is, of_int_neg}
-use Rattle.fixed_iv.specs.Ends.{in_units}
-use Rattle.fixed_iv.specs.Extent.{AreSmall, Extent, IsMeasured, IsNarrow, size, width_of}
+use Rattle.fixed_iv.specs.Extent.{AreSmall, Extent, size, width_of}
 use Rattle.fixed_iv.specs.Holds.{Holds, IsBounded}
-use Rattle.fixed_iv.specs.Narrow.{IsNarrowConstant, IsNarrowProduct, IsNarrowSum, IsNarrowTurn, IsTurnOf}
-use Rattle.fixed_iv.specs.Results.{IsResultOf}
+use Rattle.fixed_iv.specs.Narrow.{IsNarrowConstant, IsNarrowDifference, IsNarrowProduct, IsNarrowSum, IsNarrowTurn, IsTurnOf}
 use Rattle.fixed_iv.specs.declared.iv.Iv.{Iv}
 use Rattle.fixed_iv.proofs.OuterLemmas.{width_is}
-use Rattle.fixed_iv.proofs.WidthLemmas.{natural, sized}
+use Rattle.fixed_iv.proofs.WidthLemmas.{sized}
 use Rattle.earth_frame.specs.Slim.{IsSlim, IsSlimAt}
-use Rattle.earth_frame.specs.Spread.{IsSpreadWithin, IsUnitWide, IsWithinOne}
-use Rattle.earth_frame.proofs.SlimLemmas.{IsLittle, from_ends, little_le, little_product, little_small, little_sum, slim_small, slim_unit, sum_width, product_width}
+use Rattle.earth_frame.specs.Spread.{IsSpreadWithin, IsWithinOne}
+use Rattle.earth_frame.proofs.SlimLemmas.{IsLittle, from_ends, little_le, little_neg, little_product, little_small, little_sum, slim_small, slim_unit, sum_width, product_width}
 
 -- bounds that hold a number of at most so many units, and are no wider than n
 size_around : {s : ℕ} (n : ℕ) {v : Iv} {z : ℚ} → IsBounded v → Holds v z → IsLittle s z → width_of v ≤ n → size v ≤ s + n
@@ -80,6 +78,22 @@ sum_slim {w} {s} {k} {d} {t} {l} {f} {a} {b} {r} n {x} {y} rule ha hb hx hy hr t
   where
     little : (p q : ℚ) → Holds a.ends p → Holds b.ends q → IsLittle (s + t) (p +ℚ q)
     little p q hp hq = little_sum s t (s + t) p q (le_refl (s + t)) (little_le s ha.size (sized ha.measured.bounded hp)) (little_le t hb.size (sized hb.measured.bounded hq))
+
+pub difference_slim : {w s k d t l f : ℕ} {a b r : Extent} (n : ℕ) {x y : ℚ} → IsNarrowDifference a b r → IsSlimAt w s k d a → IsSlimAt w t l f b →
+    Holds a.ends x → Holds b.ends y → Holds r.ends (x -ℚ y) → s + t ≤ 32000 * 281474976710656 →
+    w ≤ 562949953421312 → (k + l) + (d + f) * 562949953421312 ≤ n * 1000 → IsSlimAt w (s + t + n) (k + l) (d + f) r
+difference_slim {w} {s} {k} {d} {t} {l} {f} {a} {b} {r} n {x} {y} rule ha hb hx hy hr top small fit =
+    let bounded = rule.bounded (ha.measured, hb.measured) (λ z q. little_small (s + t) z top (rw q.is (little q.left q.right q.of_left q.of_right))) in
+    let measured = rule.measured (ha.measured, hb.measured) bounded in
+    let p = sum_width w r.spread a.spread b.spread k d l f ha.spread hb.spread (rule.spread (ha.measured, hb.measured) bounded) in
+    record {
+      measured = measured;
+      size = size_around n bounded hr (little x y hx hy) (nat_trans measured.width (at_most w (k + l) (d + f) n r.spread small fit p));
+      spread = p;
+    }
+  where
+    little : (p q : ℚ) → Holds a.ends p → Holds b.ends q → IsLittle (s + t) (p -ℚ q)
+    little p q hp hq = little_sum s t (s + t) p _ (le_refl (s + t)) (little_le s ha.size (sized ha.measured.bounded hp)) (little_neg t q (little_le t hb.size (sized hb.measured.bounded hq)))
 
 -- bounds between -1 and 1
 pub unit_slim : {e : Extent} → IsWithinOne e → IsSlimAt e.spread 281474976710656 0 1000 e

@@ -1,16 +1,14 @@
 -- Where the sidereal angle stood at a base, from whole numbers.
-use Rattle.std.proofs.Common.{◌≡◌, arith, [], ◌∷◌, sym, ap, ◌∙◌, ℤ, pos, ◌+ℤ◌, ◌*ℤ◌, to_z, of_z, unsigned_abs, subst}
+use Rattle.std.proofs.Common.{◌≡◌, arith, [], ◌∷◌, sym, ap, ◌∙◌, ℤ, pos, ◌+ℤ◌, ◌*ℤ◌, to_z, of_z, subst}
 use Rattle.std.proofs.lemmas.Int.{ints}
-use Rattle.std.specs.Int.{w64, w128}
-use Rattle.exact.specs.Rational.{ℚ, ◌+ℚ◌, ◌-ℚ◌, ◌*ℚ◌, of_int, ratio}
+use Rattle.std.specs.Int.{w128}
+use Rattle.exact.specs.Rational.{ℚ, ◌+ℚ◌, ◌*ℚ◌, of_int, ratio}
 use Rattle.exact.proofs.RationalRing.{ring, reads}
 use Rattle.exact.proofs.Integers.{of_int_add, of_int_mul, of_int_is, ratio_is_product}
-use Rattle.civil_time.specs.Scale.{IsInstant}
-use Rattle.fixed_iv.specs.Holds.{Holds}
 use Rattle.fixed_iv.specs.declared.iv.Iv.{Iv}
+use Rattle.earth_frame.specs.Offset.{IsNearInstant}
 use Rattle.earth_frame.specs.HalfTurns.{HoldsUpToTurns}
 use Rattle.earth_frame.specs.SlowTerms.{start_half_turns}
-use Rattle.earth_frame.specs.Over.{instant_after}
 
 -- the parts of a half turn at the base
 pub parts : ℤ → ℤ
@@ -30,7 +28,7 @@ pub up_to_turns : {v : Iv} {x y : ℚ} → x ≡ y → HoldsUpToTurns v x → Ho
 up_to_turns {v} e h = subst (HoldsUpToTurns v) e h
 
 -- the code's parts
-pub kept_parts : (b : ℤ) → IsInstant b →
-    to_z w128 (of_z w128 (pos 212415936250341600000000000000 +ℤ to_z w128 (of_z w128 (to_z w128 (of_z w128 (to_z w64 (of_z w64 b))) *ℤ pos 3164400184812866)))) ≡ parts b
+pub kept_parts : (b : ℤ) → IsNearInstant b →
+    to_z w128 (of_z w128 (pos 212415936250341600000000000000 +ℤ to_z w128 (of_z w128 (b *ℤ pos 3164400184812866)))) ≡ parts b
 unfolding parts
-kept_parts b h = omega (arith, ints, h.0, h.1)
+kept_parts b h = omega (arith, ints, h.low, h.high)

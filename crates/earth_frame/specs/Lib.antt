@@ -1,8 +1,13 @@
+pub mod Angles
 pub mod Covered
 pub mod HalfTurns
 pub mod HeldVector
+pub mod Offset
 pub mod Over
-pub mod Spread
+pub mod SiderealTurn
 pub mod Slim
 pub mod SlowTerms
+pub mod Spread
+pub mod Steady
 pub mod SteadyTerms
+pub mod SunOver

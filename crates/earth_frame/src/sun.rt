@@ -1,20 +1,13 @@
 //! The direction of the Sun.
-ghost use Rattle.std.specs.Prelude.{T, ◌+◌, ◌*◌, pos};
-ghost use Rattle.exact.specs.Rational.{ℚ, ◌*ℚ◌, ratio};
+ghost use Rattle.exact.specs.Rational.{ℚ};
+ghost use Rattle.earth_frame.specs.Angles.{CoversAngleAfter, IsSlimBy, IsSpreadBy};
+ghost use Rattle.earth_frame.specs.HalfTurns.{HoldsUpToTurns, IsWithinTurn};
+ghost use Rattle.earth_frame.specs.Slim.{IsSlim};
+ghost use Rattle.earth_frame.specs.Spread.{IsUnitWide};
+ghost use Rattle.earth_frame.specs.SteadyTerms.{daily_half_turns};
+ghost use Rattle.earth_frame.specs.SunOver.{CoversEachLongitude, CoversEachSun, HoldsObliquity, anomaly_radians, longitude_radians};
 ghost use Rattle.fixed_iv.specs.Extent.{width_of};
 ghost use Rattle.fixed_iv.specs.Holds.{Holds};
-ghost use Rattle.fixed_iv.specs.Place.{Place};
-ghost use Rattle.sgp4_model.specs.Angle.{IsPi, Pair};
-ghost use Rattle.sgp4_model.specs.Degrees.{IsPairOfDegrees, radians};
-ghost use Rattle.sgp4_model.specs.Sun.{IsSun, days, obliquity, sun_longitude, sun_mean_anomaly, sun_mean_longitude};
-ghost use Rattle.sgp4_model.specs.Time.{instant_of_nanos};
-ghost use Rattle.sgp4_model.specs.Vector.{Vector};
-ghost use Rattle.earth_frame.specs.Covered.{CoversAngle, CoversVector};
-ghost use Rattle.earth_frame.specs.HalfTurns.{HoldsUpToTurns, IsWithinTurn};
-ghost use Rattle.earth_frame.specs.Over.{instant_after};
-ghost use Rattle.earth_frame.specs.Slim.{IsSlim, IsSlimAt};
-ghost use Rattle.earth_frame.specs.SteadyTerms.{daily_half_turns};
-ghost use Rattle.earth_frame.specs.Spread.{IsSpreadWithin, IsUnitWide, IsWithinOne};
 
 use crate::reduced::half_turns;
 use crate::steady::steady_angle;
@@ -24,10 +17,10 @@ use fixed_iv::{Enc, Iv, Vec3};
 /// The direction of the Sun by the low-precision formula, in the frame of the true equator and the mean equinox. `t`
 /// covers the time from `base` in units of 16,384 minutes.
 pub fn sun_direction<E: Enc>(base: Instant, t: E) -> Vec3<E>
-    ensures covers { (h : Place) (p x : ℚ) (sun : Vector) → IsPi p → E.covers t h x → IsSun p (instant_after base x) sun → CoversVector E.covers result h sun }
-    ensures narrow_x { (h : Place) (x : ℚ) → E.covers t h x → T E.tells → IsWithinOne (E.extent t) → IsSpreadWithin (2 * (E.extent t).spread + 256) (E.extent result.x) }
-    ensures narrow_y { (h : Place) (x : ℚ) → E.covers t h x → T E.tells → IsWithinOne (E.extent t) → IsSpreadWithin (2 * (E.extent t).spread + 256) (E.extent result.y) }
-    ensures narrow_z { (h : Place) (x : ℚ) → E.covers t h x → T E.tells → IsWithinOne (E.extent t) → IsSpreadWithin (2 * (E.extent t).spread + 256) (E.extent result.z) }
+    ensures covers { CoversEachSun E.Enc base t result }
+    ensures narrow_x { IsSpreadBy E.Enc 2 256 t result.x }
+    ensures narrow_y { IsSpreadBy E.Enc 2 256 t result.y }
+    ensures narrow_z { IsSpreadBy E.Enc 2 256 t result.z }
 {
     let (sine, cosine) = longitude(base, t).sincos();
     let (tilt_sine, tilt_cosine) = E::constant(tilt(base, t.bounds())).sincos();
@@ -40,8 +33,8 @@ pub fn sun_direction<E: Enc>(base: Instant, t: E) -> Vec3<E>
 
 /// The ecliptic longitude in radians, less some whole turns.
 fn longitude<E: Enc>(base: Instant, t: E) -> E
-    ensures covers { (h : Place) (p x : ℚ) (g twice : Pair) → IsPi p → E.covers t h x → IsPairOfDegrees p (sun_mean_anomaly (days (instant_after base x))) g → IsPairOfDegrees p (ratio (pos 2) 1 *ℚ sun_mean_anomaly (days (instant_after base x))) twice → CoversAngle E.covers result h p (radians p (sun_longitude (days (instant_after base x)) g.sine twice.sine)) }
-    ensures narrow { (h : Place) (x : ℚ) → E.covers t h x → T E.tells → IsWithinOne (E.extent t) → IsSlimAt (E.extent t).spread 2291223897677962 52199 204 (E.extent result) }
+    ensures covers { CoversEachLongitude E.Enc base t result }
+    ensures narrow { IsSlimBy E.Enc 2291223897677962 52199 204 t result }
 {
     let anomaly = mean_anomaly(base, t);
     let (sine, _) = anomaly.sincos();
@@ -54,8 +47,8 @@ fn longitude<E: Enc>(base: Instant, t: E) -> E
 
 /// The mean anomaly in radians, less some whole turns.
 fn mean_anomaly<E: Enc>(base: Instant, t: E) -> E
-    ensures covers { (h : Place) (p x : ℚ) → IsPi p → E.covers t h x → CoversAngle E.covers result h p (radians p (sun_mean_anomaly (days (instant_after base x)))) }
-    ensures narrow { (h : Place) (x : ℚ) → E.covers t h x → T E.tells → IsWithinOne (E.extent t) → IsSlimAt (E.extent t).spread 2044328789998351 20630 196 (E.extent result) }
+    ensures covers { CoversAngleAfter E.Enc base t result anomaly_radians }
+    ensures narrow { IsSlimBy E.Enc 2044328789998351 20630 196 t result }
 {
     steady_angle(
         anomaly_at_base(base),
@@ -66,8 +59,8 @@ fn mean_anomaly<E: Enc>(base: Instant, t: E) -> E
 
 /// The mean longitude in radians, less some whole turns.
 fn mean_longitude<E: Enc>(base: Instant, t: E) -> E
-    ensures covers { (h : Place) (p x : ℚ) → IsPi p → E.covers t h x → CoversAngle E.covers result h p (radians p (sun_mean_longitude (days (instant_after base x)))) }
-    ensures narrow { (h : Place) (x : ℚ) → E.covers t h x → T E.tells → IsWithinOne (E.extent t) → IsSlimAt (E.extent t).spread 2044328789998351 20630 196 (E.extent result) }
+    ensures covers { CoversAngleAfter E.Enc base t result longitude_radians }
+    ensures narrow { IsSlimBy E.Enc 2044328789998351 20630 196 t result }
 {
     steady_angle(
         longitude_at_base(base),
@@ -102,7 +95,7 @@ fn longitude_at_base(base: Instant) -> Iv
 
 /// The obliquity of the ecliptic in radians, where `t` holds the time from the base.
 fn tilt(base: Instant, t: Iv) -> Iv
-    ensures holds { (p x : ℚ) → IsPi p → Holds t x → Holds result (radians p (obliquity (days (instant_after base x)))) }
+    ensures holds { (x : ℚ) → Holds t x → HoldsObliquity result base x }
     ensures slim { IsUnitWide t → IsSlim (width_of t) 115188891460140 20980 4 result }
 {
     let start = Iv::from_ratio(

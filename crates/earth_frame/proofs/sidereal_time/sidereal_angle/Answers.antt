@@ -1,7 +1,8 @@
-use Rattle.std.proofs.Common.{arith, subst, ◌+◌, ◌*◌}
+use Rattle.std.proofs.Common.{arith, subst}
 use Rattle.exact.specs.Rational.{of_int}
 use Rattle.fixed_iv.proofs.HeldLemmas.{holds_product}
 use Rattle.earth_frame.proofs.AngleLemmas.{angle_is, angle_within, least, pi_slim, rate_holds, rate_slim}
+use Rattle.earth_frame.proofs.OffsetLemmas.{kept_base}
 use Rattle.earth_frame.proofs.SlimLemmas.{slim_product, slim_wider}
 use Rattle.sgp4_model.specs.Angle.{least_pi}
 use Rattle.earth_frame.proofs.SpreadLemmas.{constant_slim, product_slim, sum_slim, unit_slim}
@@ -10,7 +11,7 @@ use Rattle.earth_frame.proofs.sidereal_time.sidereal_angle.Goals as goal
 pub returns-clause-covers : goal.returns-clause-covers
 returns-clause-covers g c h p x pi k =
     let inside = g.met.E.Enc.contained c.args.t h x k in
-    let slow = c.slow_half_turns.ensures.holds x (rw c.bounds.ensures inside) in
+    let slow = rw (kept_base c.args.base c.requires) at (c.slow_half_turns.ensures.holds x (rw c.bounds.ensures inside)) in
     let rest = holds_product c.mul-rest.ensures (c.pi.ensures.holds p pi) slow.holds in
     let turned = c.constant-2.ensures.covers h _ (rate_holds c.turn_rate.result p c.turn_rate.ensures.low c.turn_rate.ensures.high pi) in
     let sum = c.plus.ensures.covers h _ _ (c.constant.ensures.covers h _ rest) (c.times.ensures.covers h _ x turned k) in

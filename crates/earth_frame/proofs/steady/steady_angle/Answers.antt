@@ -15,7 +15,7 @@ returns-clause-covers g c h p x a r pi k start rate =
     record { turns = start.turns; covered = subst (g.E.Enc.covers c.plus.result h) (turned_is p a r x (of_int start.turns)) sum }
 
 pub returns-clause-narrow : goal.returns-clause-narrow
-returns-clause-narrow g c h x a r k start rate told one within slim =
+returns-clause-narrow g c a r start rate within slim h x k told one =
     let law = g.met.E.Enc.contained in
     let w = (g.E.Enc.extent c.args.t).spread in
     let inside = law c.args.t h x k in

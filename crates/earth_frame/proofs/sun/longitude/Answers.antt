@@ -1,4 +1,4 @@
-use Rattle.std.proofs.Common.{arith, refl, pos, subst, ◌+ℤ◌}
+use Rattle.std.proofs.Common.{arith, refl, pos, subst}
 use Rattle.exact.specs.Rational.{of_int, ratio}
 use Rattle.sgp4_model.specs.Angle.{least_pi}
 use Rattle.sgp4_model.proofs.OwnPair.{sine_and_cosine_exist}
@@ -12,11 +12,11 @@ use Rattle.earth_frame.proofs.SunLemmas.{centre_rate, longitude_is, second_rate,
 use Rattle.earth_frame.proofs.sun.longitude.Goals as goal
 
 pub returns-clause-covers : goal.returns-clause-covers
-returns-clause-covers g c h p x pair twice pi k is_pair is_twice =
+returns-clause-covers g c h p x pair twice pi k are =
     let anomaly = c.mean_anomaly-anomaly.ensures.covers h p x pi k in
-    let sine = c.sincos-sine.ensures.covers h p _ _ _ pi (less_turns p _ _ _ anomaly.turns is_pair) anomaly.covered in
+    let sine = c.sincos-sine.ensures.covers h p _ _ _ pi (less_turns p _ _ _ anomaly.turns are.of_anomaly) anomaly.covered in
     let double = c.plus.ensures.covers h _ _ anomaly.covered anomaly.covered in
-    let second = c.sincos-sine_of_twice.ensures.covers h p _ _ _ pi (twice_pair p _ anomaly.turns _ _ is_twice) double in
+    let second = c.sincos-sine_of_twice.ensures.covers h p _ _ _ pi (twice_pair p _ anomaly.turns _ _ are.of_twice) double in
     let mean = c.mean_longitude.ensures.covers h p x pi k in
     let centre_held = holds_product c.mul.ensures (c.pi.ensures.holds p pi) (c.from_ratio.ensures.holds (ratio (pos 1915) 180000) refl) in
     let second_held = holds_product c.mul-2.ensures (c.pi-2.ensures.holds p pi) (c.from_ratio-2.ensures.holds (ratio (pos 20) 180000) refl) in

@@ -1,4 +1,4 @@
-use Rattle.std.proofs.Common.{arith, sym}
+use Rattle.std.proofs.Common.{arith}
 use Rattle.sgp4_model.specs.Angle.{least_pi}
 use Rattle.sgp4_model.proofs.OwnPair.{sine_and_cosine_exist}
 use Rattle.sgp4_model.proofs.Pythagoras.{sine_pairs_are_bounded}
@@ -12,9 +12,9 @@ use Rattle.earth_frame.proofs.sun.sun_direction.Goals as goal
 pub returns-clause-covers : goal.returns-clause-covers
 returns-clause-covers g c h p x sun pi k is =
     let inside = g.met.E.Enc.contained c.args.t h x k in
-    let angle = c.longitude.ensures.covers h p x is.anomaly is.twice_anomaly pi k is.of_anomaly is.of_twice_anomaly in
+    let angle = c.longitude.ensures.covers h p x is.anomaly is.twice_anomaly pi k (record { of_anomaly = is.of_anomaly; of_twice = is.of_twice_anomaly }) in
     let pair = c.sincos-sine.ensures.covers h p _ _ _ pi (less_turns p _ _ _ angle.turns is.of_longitude) angle.covered in
-    let tilt = c.constant.ensures.covers h _ (c.tilt.ensures.holds p x pi (rw c.bounds.ensures inside)) in
+    let tilt = c.constant.ensures.covers h _ (c.tilt.ensures.holds x (rw c.bounds.ensures inside) p pi) in
     let leaning = c.sincos-tilt_sine.ensures.covers h p _ _ _ pi is.of_tilt tilt in
     record {
       x = rw is.x pair.1;
@@ -29,7 +29,7 @@ returns-clause-narrow_x g c h x k told one =
     let inside = law c.args.t h x k in
     let anomaly = sine_and_cosine_exist least_pi _ least in
     let twice = sine_and_cosine_exist least_pi _ least in
-    let angle = c.longitude.ensures.covers h least_pi x (record { sine = anomaly.0; cosine = anomaly.1.0 }) (record { sine = twice.0; cosine = twice.1.0 }) least k anomaly.1.1 twice.1.1 in
+    let angle = c.longitude.ensures.covers h least_pi x (record { sine = anomaly.0; cosine = anomaly.1.0 }) (record { sine = twice.0; cosine = twice.1.0 }) least k (record { of_anomaly = anomaly.1.1; of_twice = twice.1.1 }) in
     let slim = c.longitude.ensures.narrow h x k told one in
     let own = sine_and_cosine_exist least_pi _ least in
     let pair = c.sincos-sine.ensures.covers h least_pi _ own.0 own.1.0 least own.1.1 angle.covered in
@@ -44,13 +44,13 @@ returns-clause-narrow_y g c h x k told one =
     let inside = law c.args.t h x k in
     let anomaly = sine_and_cosine_exist least_pi _ least in
     let twice = sine_and_cosine_exist least_pi _ least in
-    let angle = c.longitude.ensures.covers h least_pi x (record { sine = anomaly.0; cosine = anomaly.1.0 }) (record { sine = twice.0; cosine = twice.1.0 }) least k anomaly.1.1 twice.1.1 in
+    let angle = c.longitude.ensures.covers h least_pi x (record { sine = anomaly.0; cosine = anomaly.1.0 }) (record { sine = twice.0; cosine = twice.1.0 }) least k (record { of_anomaly = anomaly.1.1; of_twice = twice.1.1 }) in
     let slim = c.longitude.ensures.narrow h x k told one in
     let own = sine_and_cosine_exist least_pi _ least in
     let pair = c.sincos-sine.ensures.covers h least_pi _ own.0 own.1.0 least own.1.1 angle.covered in
     let near = sine_pairs_are_bounded least_pi _ own.0 own.1.0 least own.1.1 in
     let rule = c.sincos-sine.ensures.narrow told in
-    let held = c.tilt.ensures.holds least_pi x least (rw c.bounds.ensures inside) in
+    let held = c.tilt.ensures.holds x (rw c.bounds.ensures inside) least_pi least in
     let tilt = c.constant.ensures.covers h _ held in
     let tilt_iv = slim_wider (rw c.bounds.ensures one.measured.width) (c.tilt.ensures.slim (rw c.bounds.ensures one.unit)) in
     let tilt_slim = constant_slim 2251799813707 (c.constant.ensures.narrow told) tilt_iv (omega arith) held (law c.constant.result h _ tilt) one.most (omega arith) in
@@ -69,13 +69,13 @@ returns-clause-narrow_z g c h x k told one =
     let inside = law c.args.t h x k in
     let anomaly = sine_and_cosine_exist least_pi _ least in
     let twice = sine_and_cosine_exist least_pi _ least in
-    let angle = c.longitude.ensures.covers h least_pi x (record { sine = anomaly.0; cosine = anomaly.1.0 }) (record { sine = twice.0; cosine = twice.1.0 }) least k anomaly.1.1 twice.1.1 in
+    let angle = c.longitude.ensures.covers h least_pi x (record { sine = anomaly.0; cosine = anomaly.1.0 }) (record { sine = twice.0; cosine = twice.1.0 }) least k (record { of_anomaly = anomaly.1.1; of_twice = twice.1.1 }) in
     let slim = c.longitude.ensures.narrow h x k told one in
     let own = sine_and_cosine_exist least_pi _ least in
     let pair = c.sincos-sine.ensures.covers h least_pi _ own.0 own.1.0 least own.1.1 angle.covered in
     let near = sine_pairs_are_bounded least_pi _ own.0 own.1.0 least own.1.1 in
     let rule = c.sincos-sine.ensures.narrow told in
-    let held = c.tilt.ensures.holds least_pi x least (rw c.bounds.ensures inside) in
+    let held = c.tilt.ensures.holds x (rw c.bounds.ensures inside) least_pi least in
     let tilt = c.constant.ensures.covers h _ held in
     let tilt_iv = slim_wider (rw c.bounds.ensures one.measured.width) (c.tilt.ensures.slim (rw c.bounds.ensures one.unit)) in
     let tilt_slim = constant_slim 2251799813707 (c.constant.ensures.narrow told) tilt_iv (omega arith) held (law c.constant.result h _ tilt) one.most (omega arith) in

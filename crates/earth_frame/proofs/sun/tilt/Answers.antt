@@ -9,7 +9,7 @@ use Rattle.earth_frame.proofs.SunLemmas.{kept_tilt, tilt_goes_on, tilt_little, t
 use Rattle.earth_frame.proofs.sun.tilt.Goals as goal
 
 pub returns-clause-holds : goal.returns-clause-holds
-returns-clause-holds c p x pi h =
+returns-clause-holds c x h p pi =
     let b = c.nanos.result in
     let start = rw (kept_tilt b c.nanos.ensures.in_years) at c.from_ratio-start.ensures in
     let step = holds_product c.mul.ensures h (c.from_ratio.ensures.holds (ratio (pos 2048) 81000000000) refl) in
