@@ -33,10 +33,13 @@ fn files_are_refused(rt: HostRuntime) {
     file("", shape(0, StKey::Version), &rt);
     file("version 1\n", Some(StFault::NotToml), &rt);
     file("version = 1\nversion = 1\n", Some(StFault::NotToml), &rt);
-    file("version = 2\n", shape(0, StKey::Version), &rt);
+    file("version = 2\n", shape(0, StKey::Dut1), &rt);
+    file("version = 3\n", shape(0, StKey::Version), &rt);
+    file("version = 0\n", shape(0, StKey::Version), &rt);
+    file("version = -1\n", shape(0, StKey::Version), &rt);
     file("version = \"1\"\n", shape(0, StKey::Version), &rt);
     file("version = 1.0\n", shape(0, StKey::Version), &rt);
-    file("version = 2\nodd = 1\n", shape(0, StKey::Version), &rt);
+    file("version = 2\nodd = 1\n", shape(0, StKey::Other), &rt);
     file("version = 1\nodd = 1\n", shape(0, StKey::Other), &rt);
     file(
         "version = 1\nodd = 1\nstation = 1\n",

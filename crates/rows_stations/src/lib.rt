@@ -8,6 +8,8 @@ mod faults;
 #[cfg(test)]
 mod makers;
 #[cfg(test)]
+mod offsets;
+#[cfg(test)]
 mod stations;
 
 /// The plain records of a small sector and of a small station.

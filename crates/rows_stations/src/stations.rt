@@ -1,6 +1,6 @@
 //! Station files that are read.
 use elements::Decimal;
-use station_file::{StFault, Stations, read_stations};
+use station_file::{StFault, StKey, Stations, read_stations};
 use std::test::Fail;
 
 /// One station at the north pole, with a flat mask.
@@ -68,22 +68,84 @@ fn stations_stand_in_the_order_of_the_file(rt: HostRuntime) -> Result<(), Fail> 
     Ok(())
 }
 
-/// Whether a part of a file is read, or refused by a fault other than want of memory.
-fn has_answer(read: Result<Stations, StFault>) -> bool {
+/// Whether a file is refused for the fault.
+fn is_refused(read: Result<Stations, StFault>, wanted: StFault) -> bool {
     match read {
-        Ok(_) => true,
-        Err(fault) => fault != StFault::OutOfMemory,
+        Ok(_) => false,
+        Err(fault) => fault == wanted,
     }
 }
 
+/// The lengths, up to the last one, at which a front part of the file of the pole has the fault. Found by
+/// tools/stations/prefixes.py.
+const PREFIXES: [(usize, StFault); 14] = [
+    (
+        0,
+        StFault::Shape {
+            index: 0,
+            key: StKey::Version,
+        },
+    ),
+    (10, StFault::NotToml),
+    (12, StFault::Empty),
+    (22, StFault::NotToml),
+    (
+        24,
+        StFault::Shape {
+            index: 1,
+            key: StKey::Name,
+        },
+    ),
+    (36, StFault::NotToml),
+    (
+        38,
+        StFault::Shape {
+            index: 1,
+            key: StKey::Lat,
+        },
+    ),
+    (47, StFault::NotToml),
+    (
+        49,
+        StFault::Shape {
+            index: 1,
+            key: StKey::Lon,
+        },
+    ),
+    (57, StFault::NotToml),
+    (
+        59,
+        StFault::Shape {
+            index: 1,
+            key: StKey::Height,
+        },
+    ),
+    (70, StFault::NotToml),
+    (
+        72,
+        StFault::Shape {
+            index: 1,
+            key: StKey::Borders,
+        },
+    ),
+    (81, StFault::NotToml),
+];
+
 #[test]
-fn each_front_part_of_a_file_has_an_answer(rt: HostRuntime) {
-    for file in [POLE.as_bytes(), TWO.as_bytes()] {
-        for end in 0..file.len() {
-            assert!(rt;
-                has_answer(read_stations(rt.alloc(), &file[..end])),
-                "{end}"
-            );
+fn each_front_part_of_a_file_has_its_fault(rt: HostRuntime) {
+    let mut from = 0;
+    for (last, fault) in &PREFIXES {
+        for end in from..*last + 1 {
+            if end <= POLE.len() {
+                let read = read_stations(rt.alloc(), &POLE.as_bytes()[..end]);
+                assert!(rt; is_refused(read, *fault), "{end}");
+            }
         }
+        from = *last + 1;
     }
+    assert_eq!(rt; from, POLE.len() - 1, "all but the last line feed");
+    assert!(rt;
+        read_stations(rt.alloc(), &POLE.as_bytes()[..from]).is_ok(),
+        "{from}"
+    );
 }

@@ -1,7 +1,8 @@
 -- What is in its ranges passes the tests.
-use Rattle.std.proofs.Common.{◌≡◌, arith, ℕ, zero, suc, ◌+◌, ◌<◌, Bool, true, false, ◌&&◌, ◌||◌, not, nat_le, nat_eq, T, List, [], ◌∷◌, ◌++◌, length, get_or, refl, ap, subst, ℤ, pos, neg_ℤ, All, Some, Result, Ok, Err}
+use Rattle.std.proofs.Common.{◌≡◌, arith, ℕ, zero, suc, ◌+◌, ◌<◌, Bool, true, false, ◌&&◌, ◌||◌, not, nat_le, nat_eq, T, List, [], ◌∷◌, ◌++◌, length, get_or, refl, ap, subst, ℤ, pos, negsuc, neg_ℤ, unsigned_abs, ◌≤◌, All, Some, Result, Ok, Err}
 use Rattle.std.proofs.lemmas.Bool.{false_from_ne_true}
 use Rattle.std.proofs.lemmas.Bool.Decides.{nat_tests}
+use Rattle.std.proofs.lemmas.Int.{ints}
 use Rattle.std.proofs.lemmas.List.{length-append, length-map}
 use Rattle.std.proofs.lemmas.Slice.Eq.{bytes_eq-Decides}
 use Rattle.std.proofs.Math.ListN.{get_or-append}
@@ -18,11 +19,11 @@ use Rattle.station_file.specs.declared.fault.StKey.TheVariants.{Name, Lat, Lon, 
 use Rattle.station_file.specs.declared.row.StationRow.{StationRow}
 use Rattle.station_file.specs.declared.sector.Sector.{Sector}
 use Rattle.station_file.specs.Fields.{decimal_at, is_between, is_name, name_at, number_at, place_at}
-use Rattle.station_file.specs.InRange.{borders_of, floors_of, Gives, MasksAreRead, RowsAreRead, StationsAreRead}
+use Rattle.station_file.specs.InRange.{borders_of, floors_of, Gives, MasksAreRead, OffsetsAreRead, RowsAreRead, StationsAreRead}
 use Rattle.station_file.specs.MaskFields.{is_floor, sectors_of}
 use Rattle.station_file.specs.MaskTests.{at_most, below, is_azimuth, follows, goes_round, is_round}
 use Rattle.station_file.specs.Masks.{degrees, IsAzimuth, Follows, GoesRound, IsRound}
-use Rattle.station_file.specs.Rows.{AreRows, IsName, IsStationRow}
+use Rattle.station_file.specs.Rows.{AreRows, IsName, IsOffset, IsStationRow}
 use Rattle.station_file.specs.StationFile.{count, is_taken, next_index, row_of, rows_after}
 use Rattle.station_file.specs.Steps.{◌>>=◌}
 use Rattle.station_file.specs.Tables.{string_at}
@@ -39,6 +40,17 @@ at_most_of_le x y h = is_true (at_least_0 (y -ℚ x)) h.le
 
 below_of_lt : (x y : ℚ) → x <ℚ y → below x y ≡ true
 below_of_lt x y h = is_true (not (at_least_0 (x -ℚ y))) h.lt
+
+-- ---- the offset
+small : (z : ℤ) → IsOffset z → unsigned_abs z ≤ 900
+small (pos n) is = omega (arith, ints, is.high)
+small (negsuc n) is = omega (arith, ints, is.low)
+
+pub offsets_are_read : OffsetsAreRead
+offsets_are_read table dut1 at is =
+    let less = small dut1 is in
+    let passes : nat_le (unsigned_abs dut1) 900 ≡ true = grind (arith, nat_tests, less) in
+    rw (at, passes) refl
 
 -- ---- masks
 azimuth_passes : (border : DecimalRecord) → IsAzimuth (value border) → is_azimuth border ≡ true

@@ -10,6 +10,7 @@ use Rattle.toml.specs.View.{items_view, view}
 use Rattle.station_file.specs.declared.fault.StFault.{StFault}
 use Rattle.station_file.specs.declared.fault.StFault.TheVariants.{Empty, NotUtf8, TooMany}
 use Rattle.station_file.specs.declared.row.StationRow.{StationRow}
+use Rattle.station_file.specs.Rows.{StationsRecord}
 use Rattle.station_file.specs.StationFile.{count, row_of, rows_after, rows_of, station_value, text_value}
 
 -- as many items as values
@@ -39,7 +40,7 @@ pub next_row : (earlier : List StationRow) (values : List Value) (i : ℕ) (valu
 next_row earlier values i value row h here e = rw (items_view-drop values i value h, ← here, e) refl
 
 -- the answer of a text is that of its bytes
-pub answer_of_text : (bytes text : List ℕ) (answer : Result (List StationRow) StFault) → IsUtf8 bytes → text ≡ bytes → text_value text ≡ answer → answer ≡ station_value bytes
+pub answer_of_text : (bytes text : List ℕ) (answer : Result StationsRecord StFault) → IsUtf8 bytes → text ≡ bytes → text_value text ≡ answer → answer ≡ station_value bytes
 unfolding station_value
 answer_of_text bytes text answer is same e = rw (is_utf8-from_IsUtf8 bytes is, ← same) (sym e)
 

@@ -1,16 +1,16 @@
 -- What is in its ranges is read: each mask, each station of a new name, each number of stations from 1 to 64.
-use Rattle.std.specs.Prelude.{◌≡◌, ℕ, List, [], ◌∷◌, ◌++◌, map, Some, Ok}
+use Rattle.std.specs.Prelude.{◌≡◌, ℕ, ℤ, List, [], ◌∷◌, ◌++◌, map, Some, Ok}
 use Rattle.decimals.specs.Decimal.{DecimalRecord}
 use Rattle.toml.specs.Data.{Items, Members}
-use Rattle.station_file.specs.declared.fault.StKey.TheVariants.{Name, Lat, Lon, Height}
+use Rattle.station_file.specs.declared.fault.StKey.TheVariants.{Name, Lat, Lon, Height, Dut1}
 use Rattle.station_file.specs.declared.row.StationRow.{StationRow}
 use Rattle.station_file.specs.declared.sector.Sector.{Sector}
 use Rattle.station_file.specs.Fields.{decimal_at}
 use Rattle.station_file.specs.MaskFields.{mask_at, sectors_value}
 use Rattle.station_file.specs.Masks.{IsMask}
-use Rattle.station_file.specs.Rows.{AreRows, IsStations}
-use Rattle.station_file.specs.StationFile.{next_index, row_of_fields, rows_after, rows_of}
-use Rattle.station_file.specs.Tables.{string_at}
+use Rattle.station_file.specs.Rows.{AreRows, IsOffset, IsStations}
+use Rattle.station_file.specs.StationFile.{next_index, offset_at, row_of_fields, rows_after, rows_of}
+use Rattle.station_file.specs.Tables.{integer_at, string_at}
 
 -- the borders of sectors
 abbrev pub borders_of : List Sector → List DecimalRecord
@@ -35,6 +35,10 @@ pub record Gives (index : ℕ) (table : Members) (row : StationRow) : Type 0 whe
 -- a station that may stand behind these ones is read of a table that gives it
 abbrev pub RowsAreRead : Type 0
 RowsAreRead = (earlier : List StationRow) (table : Members) (row : StationRow) → Gives (next_index earlier) table row → AreRows (earlier ++ row ∷ []) → row_of_fields earlier table ≡ Ok row
+
+-- an offset in its range is read
+abbrev pub OffsetsAreRead : Type 0
+OffsetsAreRead = (table : Members) (dut1 : ℤ) → integer_at Dut1 table ≡ Some dut1 → IsOffset dut1 → offset_at table ≡ Ok dut1
 
 -- stations that a file may have are those of an array of them
 abbrev pub StationsAreRead : Type 0

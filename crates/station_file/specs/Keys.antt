@@ -1,7 +1,7 @@
 -- The names of the keys of a station file.
 use Rattle.std.specs.Prelude.{ℕ, List, codes}
 use Rattle.station_file.specs.declared.fault.StKey.{StKey}
-use Rattle.station_file.specs.declared.fault.StKey.TheVariants.{Version, Station, Name, Lat, Lon, Height, Mask, Borders, Masks, Other}
+use Rattle.station_file.specs.declared.fault.StKey.TheVariants.{Version, Station, Name, Lat, Lon, Height, Mask, Borders, Masks, Other, Dut1}
 
 -- the name of a key
 abbrev pub name_of : StKey → List ℕ
@@ -15,3 +15,4 @@ name_of Mask = codes "mask"
 name_of Borders = codes "borders"
 name_of Masks = codes "masks"
 name_of Other = codes "other"
+name_of Dut1 = codes "dut1_ms"

@@ -1,5 +1,5 @@
 -- What stations are: each is in its ranges, and their names differ. The plain record of one.
-use Rattle.std.specs.Prelude.{◌≡◌, ℕ, ◌≤◌, pos, neg_ℤ, List, length, map, All, AllPairs}
+use Rattle.std.specs.Prelude.{◌≡◌, ℕ, ℤ, ◌≤◌, ◌≤ℤ◌, pos, neg_ℤ, List, length, map, All, AllPairs}
 use Rattle.decimals.specs.Decimal.{value}
 use Rattle.elements.specs.Elements.{IsFromTo}
 use Rattle.sgp4_model.specs.Records.{SectorRecord, StationRecord}
@@ -30,6 +30,21 @@ pub record IsStations (rows : List StationRow) : Type 0 where
   pub least : 1 ≤ length rows
   pub most : length rows ≤ 64
   pub rows_are : AreRows rows
+
+-- the offset of UT1 from UTC in milliseconds: from -900 to 900
+pub record IsOffset (dut1 : ℤ) : Type 0 where
+  pub low : neg_ℤ (pos 900) ≤ℤ dut1
+  pub high : dut1 ≤ℤ pos 900
+
+-- stations, and the offset of UT1 from UTC in milliseconds
+pub record StationsRecord : Type 0 where
+  pub rows : List StationRow
+  pub dut1 : ℤ
+
+-- one to 64 stations in their ranges and of different names, and an offset in its range
+pub record AreStations (stations : StationsRecord) : Type 0 where
+  pub rows_are : IsStations stations.rows
+  pub offset : IsOffset stations.dut1
 
 -- the plain record of a sector
 abbrev pub record_of_sector : Sector → SectorRecord

@@ -1,18 +1,21 @@
 -- What a station file says: its stations, or its first fault.
-use Rattle.std.specs.Prelude.{ℕ, ◌+◌, Bool, not, nat_le, List, [], ◌∷◌, ◌++◌, length, Option, Some, None, Result, Ok, Err}
+use Rattle.std.specs.Prelude.{ℕ, ℤ, pos, unsigned_abs, ◌+◌, Bool, not, nat_le, List, [], ◌∷◌, ◌++◌, length, Option, Some, None, Result, Ok, Err}
 use Rattle.std.specs.List.{list_any}
 use Rattle.std.specs.Str.{bytes_eq, is_utf8}
 use Rattle.toml.specs.Data.{Data, Items, no_items, item, Members, as_table, as_array}
 use Rattle.toml.specs.Parse.{parse_document}
 use Rattle.station_file.specs.declared.fault.StFault.{StFault}
-use Rattle.station_file.specs.declared.fault.StFault.TheVariants.{NotUtf8, NotToml, Shape, Empty, TooMany, Twice}
-use Rattle.station_file.specs.declared.fault.StKey.TheVariants.{Version, Station, Other}
+use Rattle.station_file.specs.declared.fault.StFault.TheVariants.{NotUtf8, NotToml, Shape, Empty, TooMany, Range, Twice}
+use Rattle.station_file.specs.declared.fault.StKey.TheVariants.{Version as VersionKey, Station, Other, Dut1}
 use Rattle.station_file.specs.declared.field.Place.{Place}
 use Rattle.station_file.specs.declared.row.StationRow.{StationRow}
+use Rattle.station_file.specs.declared.version.Version.{Version}
+use Rattle.station_file.specs.declared.version.Version.TheVariants.{First, Second}
 use Rattle.station_file.specs.Fields.{name_at, place_at}
 use Rattle.station_file.specs.MaskFields.{mask_at}
+use Rattle.station_file.specs.Rows.{StationsRecord}
 use Rattle.station_file.specs.Steps.{◌>>=◌, or_fault, given}
-use Rattle.station_file.specs.Tables.{has_only, has_station_keys, is_one, is_top_key, value_at}
+use Rattle.station_file.specs.Tables.{has_keys_of, has_station_keys, integer_at, value_at, version_at}
 
 -- one of these stations has the name
 abbrev pub is_taken : List StationRow → List ℕ → Bool
@@ -62,16 +65,36 @@ abbrev pub rows_at : Option Data → Result (List StationRow) StFault
 rows_at None = Err Empty
 rows_at (Some d) = or_fault (Shape 0 Station) (as_array d) >>= rows_of
 
--- the stations of the top table
-abbrev pub stations_of : Members → Result (List StationRow) StFault
-stations_of ms =
-    given (is_one (value_at Version ms)) (Shape 0 Version)
-    (given (has_only is_top_key ms) (Shape 0 Other) (rows_at (value_at Station ms)))
+-- an offset from -900 to 900 milliseconds
+abbrev pub is_offset : ℤ → Bool
+is_offset z = nat_le (unsigned_abs z) 900
 
--- the stations of a text
-abbrev pub text_value : List ℕ → Result (List StationRow) StFault
+-- the offset of UT1 from UTC that the top table names: an integer in its range
+abbrev pub offset_at : Members → Result ℤ StFault
+offset_at ms = or_fault (Shape 0 Dut1) (integer_at Dut1 ms) >>= (λ z. given (is_offset z) (Range 0 Dut1) (Ok z))
+
+-- the offset in a version: the first stands for 0
+abbrev pub offset_of : Version → Members → Result ℤ StFault
+offset_of First ms = Ok (pos 0)
+offset_of Second ms = offset_at ms
+
+-- the stations and the offset of the top table in a version
+abbrev pub stations_in : Version → Members → Result StationsRecord StFault
+stations_in version ms = given (has_keys_of version ms) (Shape 0 Other) (do
+  dut1 ← offset_of version ms
+  rows ← rows_at (value_at Station ms)
+  Ok (record { rows = rows; dut1 = dut1 }))
+
+-- the stations and the offset of the top table
+abbrev pub stations_of : Members → Result StationsRecord StFault
+stations_of ms = do
+  version ← or_fault (Shape 0 VersionKey) (version_at ms)
+  stations_in version ms
+
+-- the stations and the offset of a text
+abbrev pub text_value : List ℕ → Result StationsRecord StFault
 text_value text = or_fault NotToml (parse_document text) >>= stations_of
 
--- the stations of a file, or its first fault
-unfoldable pub station_value : List ℕ → Result (List StationRow) StFault
+-- the stations of a file and its offset of UT1 from UTC, or its first fault
+unfoldable pub station_value : List ℕ → Result StationsRecord StFault
 station_value bytes = given (is_utf8 bytes) NotUtf8 (text_value bytes)

@@ -1,6 +1,7 @@
 -- Steps of which each may fail, one after another.
-use Rattle.std.specs.Prelude.{Bool, true, false, Option, Some, None, Result, Ok, Err}
+use Rattle.std.specs.Prelude.{◌≡◌, Bool, true, false, Option, Some, None, Result, Ok, Err}
 use Rattle.station_file.specs.declared.fault.StFault.{StFault}
+use Rattle.station_file.specs.declared.fault.StFault.TheVariants.{OutOfMemory}
 
 infixl 10 ◌>>=◌
 -- the next step where there is a value, and the fault where there is none
@@ -12,6 +13,10 @@ abbrev pub ◌>>=◌ : {A B : Type 0} → Result A StFault → (A → Result B S
 abbrev pub or_fault : {A : Type 0} → StFault → Option A → Result A StFault
 or_fault fault (Some x) = Ok x
 or_fault fault None = Err fault
+
+-- the fault is that of an answer, unless it is want of memory
+abbrev pub IsFaultOf : {A : Type 0} → Result A StFault → StFault → Type 0
+IsFaultOf answer fault = ¬ (fault ≡ OutOfMemory) → answer ≡ Err fault
 
 -- an answer where a test holds, or else a fault
 abbrev pub given : {A : Type 0} → Bool → StFault → Result A StFault → Result A StFault

@@ -1,10 +1,12 @@
 -- What a TOML table of a station file holds: its keys, and the values at them.
-use Rattle.std.specs.Prelude.{ℕ, pos, Bool, true, false, ◌&&◌, ◌||◌, not, List, codes, Option, Some, option_and_then, is_some}
+use Rattle.std.specs.Prelude.{ℕ, ℤ, pos, Bool, true, ◌&&◌, ◌||◌, not, if◌then◌else◌, List, codes, Option, Some, None, option_and_then, is_some}
 use Rattle.std.specs.Ordering.{int_eq}
 use Rattle.std.specs.Str.{bytes_eq}
-use Rattle.toml.specs.Data.{Data, integer, Items, Members, no_members, member, get_member, as_str, as_array}
+use Rattle.toml.specs.Data.{Data, Items, Members, no_members, member, get_member, as_str, as_array, as_integer}
 use Rattle.station_file.specs.declared.fault.StKey.{StKey}
-use Rattle.station_file.specs.declared.fault.StKey.TheVariants.{Mask, Borders, Masks}
+use Rattle.station_file.specs.declared.fault.StKey.TheVariants.{Mask, Borders, Masks, Version as VersionKey}
+use Rattle.station_file.specs.declared.version.Version.{Version}
+use Rattle.station_file.specs.declared.version.Version.TheVariants.{First, Second}
 use Rattle.station_file.specs.Keys.{name_of}
 
 -- each key of a table passes a test
@@ -12,9 +14,17 @@ abbrev pub has_only : (List ℕ → Bool) → Members → Bool
 has_only test no_members = true
 has_only test (member key d ms) = test key && has_only test ms
 
--- the keys of the top table
-abbrev pub is_top_key : List ℕ → Bool
-is_top_key key = bytes_eq key (codes "version") || bytes_eq key (codes "station")
+-- the keys of the top table in version 1, and in version 2
+abbrev pub is_first_key : List ℕ → Bool
+is_first_key key = bytes_eq key (codes "version") || bytes_eq key (codes "station")
+
+abbrev pub is_second_key : List ℕ → Bool
+is_second_key key = is_first_key key || bytes_eq key (codes "dut1_ms")
+
+-- the keys of the top table in a version
+abbrev pub has_keys_of : Version → Members → Bool
+has_keys_of First = has_only is_first_key
+has_keys_of Second = has_only is_second_key
 
 -- the keys of a station
 abbrev pub is_station_key : List ℕ → Bool
@@ -41,7 +51,14 @@ has_key key ms = is_some (value_at key ms)
 abbrev pub has_station_keys : Members → Bool
 has_station_keys ms = has_only is_station_key ms && not (has_key Mask ms && (has_key Borders ms || has_key Masks ms))
 
--- the value is the integer 1
-abbrev pub is_one : Option Data → Bool
-is_one (Some (integer z)) = int_eq z (pos 1)
-is_one _ = false
+-- the integer at a key
+abbrev pub integer_at : StKey → Members → Option ℤ
+integer_at key ms = option_and_then as_integer (value_at key ms)
+
+-- the version of this number: 1 or 2
+abbrev pub version_of : ℤ → Option Version
+version_of z = if int_eq z (pos 1) then Some First else (if int_eq z (pos 2) then Some Second else None)
+
+-- the version that the top table names, if it is one of the two
+abbrev pub version_at : Members → Option Version
+version_at ms = option_and_then version_of (integer_at VersionKey ms)

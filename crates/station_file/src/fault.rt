@@ -25,6 +25,8 @@ pub enum StKey {
     Masks,
     /// A key that has no place there.
     Other,
+    /// The offset of UT1 from UTC, in milliseconds.
+    Dut1,
 }
 
 impl StKey {
@@ -43,6 +45,7 @@ impl StKey {
             StKey::Borders => "borders",
             StKey::Masks => "masks",
             StKey::Other => "other",
+            StKey::Dut1 => "dut1_ms",
         }
     }
 }

@@ -12,6 +12,7 @@ mod row;
 mod sector;
 mod stations;
 mod table;
+mod version;
 
 pub use fault::{StFault, StKey};
 pub use mask::MaskRow;

@@ -5,6 +5,7 @@ ghost use Rattle.toml.specs.View.{items_view, table_view};
 ghost use Rattle.station_file.specs.MaskFields.{decimals_after, decimals_at, flat_at, is_floor, mask_at, sectors_at, sectors_of, sectors_value};
 ghost use Rattle.station_file.specs.Masks.{IsMask};
 ghost use Rattle.station_file.specs.MaskTests.{are_borders};
+ghost use Rattle.station_file.specs.Steps.{IsFaultOf};
 
 use crate::border::are_borders;
 use crate::fault::{StFault, StKey};
@@ -19,7 +20,7 @@ use toml::{Table, Value};
 /// The decimals of strings, or the fault where one of them is no such string.
 fn decimals_of(alloc: Global, fault: StFault, values: &[Value]) -> Result<Vec<Decimal>, StFault>
     ensures ok { IfOk result (λ numbers. decimals_after fault [] (items_view values.now) ≡ Ok numbers.items) }
-    ensures err { IfErr result (λ e. ¬ (e ≡ StFault.OutOfMemory) → decimals_after fault [] (items_view values.now) ≡ Err e) }
+    ensures err { IfErr result (IsFaultOf (decimals_after fault [] (items_view values.now))) }
 {
     let mut numbers = Vec::new(alloc);
     for value in values {
@@ -43,7 +44,7 @@ fn decimals_at(
     table: &Table,
 ) -> Result<Vec<Decimal>, StFault>
     ensures ok { IfOk result (λ numbers. decimals_at index key (table_view table.now) ≡ Ok numbers.items) }
-    ensures err { IfErr result (λ e. ¬ (e ≡ StFault.OutOfMemory) → decimals_at index key (table_view table.now) ≡ Err e) }
+    ensures err { IfErr result (IsFaultOf (decimals_at index key (table_view table.now))) }
 {
     match array_at(table, key) {
         Some(values) => decimals_of(alloc, StFault::Shape { index, key }, values),
@@ -97,7 +98,7 @@ fn mask_of(
     floors: &[Decimal],
 ) -> Result<MaskRow, StFault>
     ensures ok { IfOk result (λ mask. sectors_value index borders.now floors.now ≡ Ok mask) }
-    ensures err { IfErr result (λ e. ¬ (e ≡ StFault.OutOfMemory) → sectors_value index borders.now floors.now ≡ Err e) }
+    ensures err { IfErr result (IsFaultOf (sectors_value index borders.now floors.now)) }
     ensures mask { IfOk result IsMask }
 {
     if !are_floors(floors) {
@@ -118,7 +119,7 @@ fn mask_of(
 /// The mask of the keys `borders` and `masks`, or the first fault.
 fn sectors_at(alloc: Global, index: u32, table: &Table) -> Result<MaskRow, StFault>
     ensures ok { IfOk result (λ mask. sectors_at index (table_view table.now) ≡ Ok mask) }
-    ensures err { IfErr result (λ e. ¬ (e ≡ StFault.OutOfMemory) → sectors_at index (table_view table.now) ≡ Err e) }
+    ensures err { IfErr result (IsFaultOf (sectors_at index (table_view table.now))) }
     ensures mask { IfOk result IsMask }
 {
     match decimals_at(alloc, index, StKey::Borders, table) {
@@ -134,7 +135,7 @@ fn sectors_at(alloc: Global, index: u32, table: &Table) -> Result<MaskRow, StFau
 #[tactic(auto, using(crate::proofs::FlatLemmas::flat_is_mask))]
 fn flat_at(alloc: Global, index: u32, table: &Table) -> Result<MaskRow, StFault>
     ensures ok { IfOk result (λ mask. flat_at index (table_view table.now) ≡ Ok mask) }
-    ensures err { IfErr result (λ e. ¬ (e ≡ StFault.OutOfMemory) → flat_at index (table_view table.now) ≡ Err e) }
+    ensures err { IfErr result (IsFaultOf (flat_at index (table_view table.now))) }
     ensures mask { IfOk result IsMask }
 {
     match number_at(index, StKey::Mask, -90, 90, table) {
@@ -149,7 +150,7 @@ fn flat_at(alloc: Global, index: u32, table: &Table) -> Result<MaskRow, StFault>
 /// The mask of a station, or the first fault.
 pub(crate) fn mask_at(alloc: Global, index: u32, table: &Table) -> Result<MaskRow, StFault>
     ensures ok { IfOk result (λ mask. mask_at index (table_view table.now) ≡ Ok mask) }
-    ensures err { IfErr result (λ e. ¬ (e ≡ StFault.OutOfMemory) → mask_at index (table_view table.now) ≡ Err e) }
+    ensures err { IfErr result (IsFaultOf (mask_at index (table_view table.now))) }
     ensures mask { IfOk result IsMask }
 {
     match value_at(table, StKey::Mask) {

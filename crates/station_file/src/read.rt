@@ -3,16 +3,18 @@ ghost use Rattle.std.specs.Prelude.{◌≡◌, ◌+◌, ◌<◌, ◌≤◌, ◌^
 ghost use Rattle.decimals.specs.Decimal.{value};
 ghost use Rattle.elements.specs.Elements.{IsFromTo};
 ghost use Rattle.toml.specs.View.{items_view, table_view, view};
-ghost use Rattle.station_file.specs.Rows.{AreRows, IsName, IsStationRow};
+ghost use Rattle.station_file.specs.Rows.{AreRows, IsName, IsOffset, IsStationRow, IsStations};
 ghost use Rattle.station_file.specs.Tables.{value_at};
-ghost use Rattle.station_file.specs.StationFile.{is_taken, row_of, row_of_fields, row_of_parts, rows_after, rows_at, rows_of, station_value, stations_of, text_value};
+ghost use Rattle.station_file.specs.StationFile.{is_taken, offset_at, offset_of, row_of, row_of_fields, row_of_parts, rows_after, rows_at, rows_of, station_value, stations_in, stations_of, text_value};
+ghost use Rattle.station_file.specs.Steps.{IsFaultOf};
 
 use crate::fault::{StFault, StKey};
 use crate::field::{Place, name_at, place_at};
 use crate::mask_field::mask_at;
 use crate::row::StationRow;
 use crate::stations::Stations;
-use crate::table::{has_station_keys, has_top_keys, is_version_one, value_at};
+use crate::table::{has_keys_of, has_station_keys, integer_at, value_at, version_at};
+use crate::version::Version;
 use elements::Text;
 use std::alloc::Global;
 use std::str;
@@ -39,7 +41,7 @@ fn row_of_parts(
     requires lon { IsFromTo (neg_ℤ (pos 180)) (pos 360) (value place.lon) }
     requires height { IsFromTo (neg_ℤ (pos 500)) (pos 9000) (value place.height) }
     ensures ok { IfOk result (λ row. row_of_parts earlier.now name.now place (table_view table.now) ≡ Ok row) }
-    ensures err { IfErr result (λ e. ¬ (e ≡ StFault.OutOfMemory) → row_of_parts earlier.now name.now place (table_view table.now) ≡ Err e) }
+    ensures err { IfErr result (IsFaultOf (row_of_parts earlier.now name.now place (table_view table.now))) }
     ensures row { IfOk result IsStationRow }
     ensures untaken { IfOk result (λ row. is_taken earlier.now row.name ≡ false) }
 {
@@ -71,7 +73,7 @@ fn row_of_fields(
 ) -> Result<StationRow, StFault>
     requires { length earlier.now + 1 < 2 ^ 32 }
     ensures ok { IfOk result (λ row. row_of_fields earlier.now (table_view table.now) ≡ Ok row) }
-    ensures err { IfErr result (λ e. ¬ (e ≡ StFault.OutOfMemory) → row_of_fields earlier.now (table_view table.now) ≡ Err e) }
+    ensures err { IfErr result (IsFaultOf (row_of_fields earlier.now (table_view table.now))) }
     ensures row { IfOk result IsStationRow }
     ensures untaken { IfOk result (λ row. is_taken earlier.now row.name ≡ false) }
 {
@@ -89,7 +91,7 @@ fn row_of_fields(
 fn row_of(alloc: Global, earlier: &[StationRow], value: &Value) -> Result<StationRow, StFault>
     requires { length earlier.now + 1 < 2 ^ 32 }
     ensures ok { IfOk result (λ row. row_of earlier.now (view value.now) ≡ Ok row) }
-    ensures err { IfErr result (λ e. ¬ (e ≡ StFault.OutOfMemory) → row_of earlier.now (view value.now) ≡ Err e) }
+    ensures err { IfErr result (IsFaultOf (row_of earlier.now (view value.now))) }
     ensures row { IfOk result IsStationRow }
     ensures untaken { IfOk result (λ row. is_taken earlier.now row.name ≡ false) }
 {
@@ -116,7 +118,7 @@ fn row_of(alloc: Global, earlier: &[StationRow], value: &Value) -> Result<Statio
 fn rows_of(alloc: Global, values: &[Value]) -> Result<Vec<StationRow>, StFault>
     requires { length values.now ≤ 64 }
     ensures ok { IfOk result (λ rows. rows_after [] (items_view values.now) ≡ Ok rows.items) }
-    ensures err { IfErr result (λ e. ¬ (e ≡ StFault.OutOfMemory) → rows_after [] (items_view values.now) ≡ Err e) }
+    ensures err { IfErr result (IsFaultOf (rows_after [] (items_view values.now))) }
     ensures len { IfOk result (λ rows. length rows.items ≡ length values.now) }
     ensures rows { IfOk result (λ rows. AreRows rows.items) }
 {
@@ -136,9 +138,10 @@ fn rows_of(alloc: Global, values: &[Value]) -> Result<Vec<StationRow>, StFault>
 
 /// The stations of an array, of 1 to 64, or the first fault.
 #[tactic(auto, using(crate::proofs::RowLemmas::rows_are_stations, crate::proofs::ReadLemmas::no_stations, crate::proofs::ReadLemmas::too_many, crate::proofs::ReadLemmas::few_enough))]
-fn stations_in(alloc: Global, values: &[Value]) -> Result<Stations, StFault>
-    ensures ok { IfOk result (λ stations. rows_of (items_view values.now) ≡ Ok stations) }
-    ensures err { IfErr result (λ e. ¬ (e ≡ StFault.OutOfMemory) → rows_of (items_view values.now) ≡ Err e) }
+fn rows_in(alloc: Global, values: &[Value]) -> Result<Vec<StationRow>, StFault>
+    ensures ok { IfOk result (λ rows. rows_of (items_view values.now) ≡ Ok rows.items) }
+    ensures err { IfErr result (IsFaultOf (rows_of (items_view values.now))) }
+    ensures stations { IfOk result (λ rows. IsStations rows.items) }
 {
     if values.is_empty() {
         return Err(StFault::Empty);
@@ -146,20 +149,18 @@ fn stations_in(alloc: Global, values: &[Value]) -> Result<Stations, StFault>
     if values.len() > 64 {
         return Err(StFault::TooMany);
     }
-    match rows_of(alloc, values) {
-        Ok(rows) => Ok(Stations::of(rows)),
-        Err(fault) => Err(fault),
-    }
+    rows_of(alloc, values)
 }
 
 /// The stations of the key `station`, or the first fault.
-fn stations_at(alloc: Global, table: &Table) -> Result<Stations, StFault>
-    ensures ok { IfOk result (λ stations. rows_at (value_at StKey.Station (table_view table.now)) ≡ Ok stations) }
-    ensures err { IfErr result (λ e. ¬ (e ≡ StFault.OutOfMemory) → rows_at (value_at StKey.Station (table_view table.now)) ≡ Err e) }
+fn rows_at(alloc: Global, table: &Table) -> Result<Vec<StationRow>, StFault>
+    ensures ok { IfOk result (λ rows. rows_at (value_at StKey.Station (table_view table.now)) ≡ Ok rows.items) }
+    ensures err { IfErr result (IsFaultOf (rows_at (value_at StKey.Station (table_view table.now)))) }
+    ensures stations { IfOk result (λ rows. IsStations rows.items) }
 {
     match value_at(table, StKey::Station) {
         Some(value) => match value.as_array() {
-            Some(values) => stations_in(alloc, values),
+            Some(values) => rows_in(alloc, values),
             None => Err(StFault::Shape {
                 index: 0,
                 key: StKey::Station,
@@ -169,30 +170,78 @@ fn stations_at(alloc: Global, table: &Table) -> Result<Stations, StFault>
     }
 }
 
-/// The stations of the top table, or the first fault.
-fn stations_of(alloc: Global, table: &Table) -> Result<Stations, StFault>
-    ensures ok { IfOk result (λ stations. stations_of (table_view table.now) ≡ Ok stations) }
-    ensures err { IfErr result (λ e. ¬ (e ≡ StFault.OutOfMemory) → stations_of (table_view table.now) ≡ Err e) }
+/// The offset of UT1 from UTC that the top table names, in milliseconds, or the first fault.
+fn offset_at(table: &Table) -> Result<i32, StFault>
+    ensures value { result ≡ offset_at (table_view table.now) }
+    ensures range { IfOk result IsOffset }
 {
-    if !is_version_one(table) {
-        return Err(StFault::Shape {
+    match integer_at(table, StKey::Dut1) {
+        Some(offset) => {
+            if offset.unsigned_abs() <= 900 {
+                Ok(offset as i32)
+            } else {
+                Err(StFault::Range {
+                    index: 0,
+                    key: StKey::Dut1,
+                })
+            }
+        }
+        None => Err(StFault::Shape {
             index: 0,
-            key: StKey::Version,
-        });
+            key: StKey::Dut1,
+        }),
     }
-    if !has_top_keys(table) {
+}
+
+/// The offset of UT1 from UTC in a version, in milliseconds, or the first fault.
+fn offset_of(version: Version, table: &Table) -> Result<i32, StFault>
+    ensures value { result ≡ offset_of version (table_view table.now) }
+    ensures range { IfOk result IsOffset }
+{
+    match version {
+        Version::First => Ok(0),
+        Version::Second => offset_at(table),
+    }
+}
+
+/// The stations and the offset of the top table in a version, or the first fault.
+fn stations_in(alloc: Global, version: Version, table: &Table) -> Result<Stations, StFault>
+    ensures ok { IfOk result (λ stations. stations_in version (table_view table.now) ≡ Ok stations) }
+    ensures err { IfErr result (IsFaultOf (stations_in version (table_view table.now))) }
+{
+    if !has_keys_of(version, table) {
         return Err(StFault::Shape {
             index: 0,
             key: StKey::Other,
         });
     }
-    stations_at(alloc, table)
+    match offset_of(version, table) {
+        Ok(dut1_ms) => match rows_at(alloc, table) {
+            Ok(rows) => Ok(Stations::with_offset(rows, dut1_ms)),
+            Err(fault) => Err(fault),
+        },
+        Err(fault) => Err(fault),
+    }
+}
+
+/// The stations and the offset of the top table, or the first fault.
+fn stations_of(alloc: Global, table: &Table) -> Result<Stations, StFault>
+    ensures ok { IfOk result (λ stations. stations_of (table_view table.now) ≡ Ok stations) }
+    ensures err { IfErr result (IsFaultOf (stations_of (table_view table.now))) }
+{
+    match version_at(table) {
+        Some(version) => stations_in(alloc, version, table),
+        None => Err(StFault::Shape {
+            index: 0,
+            key: StKey::Version,
+        }),
+    }
 }
 
 /// The stations of a text, or the first fault.
 fn stations_of_text(alloc: Global, text: &str) -> Result<Stations, StFault>
     ensures ok { IfOk result (λ stations. text_value text.now ≡ Ok stations) }
-    ensures err { IfErr result (λ e. ¬ (e ≡ StFault.OutOfMemory) → text_value text.now ≡ Err e) }
+    ensures err { IfErr result (IsFaultOf (text_value text.now)) }
 {
     match toml::table_from_str(alloc, text) {
         Ok(table) => stations_of(alloc, &table),

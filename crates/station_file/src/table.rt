@@ -4,9 +4,10 @@ ghost use Rattle.std.specs.List.{list_all};
 ghost use Rattle.std.specs.BTreeMap.{keys};
 ghost use Rattle.toml.specs.Data.{get_member};
 ghost use Rattle.toml.specs.View.{array_view, table_view, view};
-ghost use Rattle.station_file.specs.Tables.{array_at, has_key, has_only, has_station_keys, is_one, is_station_key, is_top_key, string_at, value_at};
+ghost use Rattle.station_file.specs.Tables.{array_at, has_key, has_keys_of, has_only, has_station_keys, integer_at, is_first_key, is_second_key, is_station_key, string_at, value_at, version_at, version_of};
 
 use crate::fault::StKey;
+use crate::version::Version;
 use toml::{Table, Value};
 
 /// The value at a name.
@@ -50,11 +51,28 @@ fn has_key(table: &Table, key: StKey) -> bool
     value_at(table, key).is_some()
 }
 
-/// Whether the name is one of the keys of the top table.
-fn is_top_key(name: &str) -> bool
-    ensures { result ≡ is_top_key name.now }
+/// The integer at a key.
+pub(crate) fn integer_at(table: &Table, key: StKey) -> Option<i64>
+    ensures { result ≡ integer_at key (table_view table.now) }
+{
+    match value_at(table, key) {
+        Some(value) => value.as_integer(),
+        None => None,
+    }
+}
+
+/// Whether the name is one of the keys of the top table in version 1.
+fn is_first_key(name: &str) -> bool
+    ensures { result ≡ is_first_key name.now }
 {
     name == "version" || name == "station"
+}
+
+/// Whether the name is one of the keys of the top table in version 2.
+fn is_second_key(name: &str) -> bool
+    ensures { result ≡ is_second_key name.now }
+{
+    is_first_key(name) || name == "dut1_ms"
 }
 
 /// Whether the name is one of the keys of a station.
@@ -70,11 +88,18 @@ fn is_station_key(name: &str) -> bool
         || name == "masks"
 }
 
-/// Whether each name of the map is a key of the top table.
-fn are_top_keys(table: &Table) -> bool
-    ensures { result ≡ list_all (λ k. is_top_key (string_bytes k)) (keys table.now) }
+/// Whether each name of the map is a key of the top table in version 1.
+fn are_first_keys(table: &Table) -> bool
+    ensures { result ≡ list_all (λ k. is_first_key (string_bytes k)) (keys table.now) }
 {
-    table.keys().all(|name| is_top_key(name.as_str()))
+    table.keys().all(|name| is_first_key(name.as_str()))
+}
+
+/// Whether each name of the map is a key of the top table in version 2.
+fn are_second_keys(table: &Table) -> bool
+    ensures { result ≡ list_all (λ k. is_second_key (string_bytes k)) (keys table.now) }
+{
+    table.keys().all(|name| is_second_key(name.as_str()))
 }
 
 /// Whether each name of the map is a key of a station.
@@ -84,11 +109,28 @@ fn are_station_keys(table: &Table) -> bool
     table.keys().all(|name| is_station_key(name.as_str()))
 }
 
-/// Whether the top table has no other keys than its own.
-pub(crate) fn has_top_keys(table: &Table) -> bool
-    ensures { result ≡ has_only is_top_key (table_view table.now) }
+/// Whether the top table has no other keys than those of version 1.
+fn has_first_keys(table: &Table) -> bool
+    ensures { result ≡ has_only is_first_key (table_view table.now) }
 {
-    are_top_keys(table)
+    are_first_keys(table)
+}
+
+/// Whether the top table has no other keys than those of version 2.
+fn has_second_keys(table: &Table) -> bool
+    ensures { result ≡ has_only is_second_key (table_view table.now) }
+{
+    are_second_keys(table)
+}
+
+/// Whether the top table has no other keys than those of the version.
+pub(crate) fn has_keys_of(version: Version, table: &Table) -> bool
+    ensures { result ≡ has_keys_of version (table_view table.now) }
+{
+    match version {
+        Version::First => has_first_keys(table),
+        Version::Second => has_second_keys(table),
+    }
 }
 
 /// Whether a station has no other keys than its own.
@@ -107,15 +149,25 @@ pub(crate) fn has_station_keys(table: &Table) -> bool
             && (has_key(table, StKey::Borders) || has_key(table, StKey::Masks)))
 }
 
-/// Whether the table has the version 1.
-pub(crate) fn is_version_one(table: &Table) -> bool
-    ensures { result ≡ is_one (value_at StKey.Version (table_view table.now)) }
+/// The version of this number: 1 or 2.
+fn version_of(number: i64) -> Option<Version>
+    ensures { result ≡ version_of number }
 {
-    match value_at(table, StKey::Version) {
-        Some(value) => match value.as_integer() {
-            Some(version) => version == 1,
-            None => false,
-        },
-        None => false,
+    if number == 1 {
+        Some(Version::First)
+    } else if number == 2 {
+        Some(Version::Second)
+    } else {
+        None
+    }
+}
+
+/// The version that the top table names, if it is one of the two.
+pub(crate) fn version_at(table: &Table) -> Option<Version>
+    ensures { result ≡ version_at (table_view table.now) }
+{
+    match integer_at(table, StKey::Version) {
+        Some(number) => version_of(number),
+        None => None,
     }
 }
