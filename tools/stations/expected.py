@@ -1,5 +1,5 @@
 #!/usr/bin/env python3
-"""Writes crates/rows_view/src/expected.rt: places of stations, and directions at which they see positions.
+"""Writes crates/rows_view/src/expected.rt: places of stations, and directions and lengths at which they see positions.
 
 All are computed here to 50 digits, by the formulas of an ellipsoid and of a rotation, and share nothing with the program. A
 number is given by the whole number of units of 2^-48 below it. Run it at the top of the repository:
@@ -43,6 +43,9 @@ MASKS = [
 ]
 JUDGED = [(a, e) for a in (0, 45, 90, 135, 180, 225, 270, 315, 359, 2) for e in ("-80", "5", "15", "25", "35", "50", "85")] + [
     (45, "10.01"), (45, "9.99"), (9, "2.01"), (10, "1.5"), (99.5, "0"), (99.5, "-89")]
+
+# ranges at which they are judged too, in turn
+RANGES = ["0.05", "0.3", "1.7", "9"]
 
 NEAR = Fraction(1, 10**9)
 
@@ -88,7 +91,7 @@ def place(lat, lon, height):
     return ((n + h) * cf * cl / RADIUS, (n + h) * cf * sl / RADIUS, (n * FLAT + h) * sf / RADIUS)
 
 
-def view(lat, lon, height, sidereal, r):
+def lengths(lat, lon, height, sidereal, r):
     sf, cf = of_degrees(lat)
     sl, cl = of_degrees(lon)
     s, c = of_degrees(sidereal)
@@ -99,6 +102,11 @@ def view(lat, lon, height, sidereal, r):
     out, east = d[0] * cl + d[1] * sl, d[1] * cl - d[0] * sl
     up, north = out * cf + d[2] * sf, d[2] * cf - out * sf
     size = mp.sqrt(east**2 + north**2 + up**2)
+    return (east, north, up, size)
+
+
+def view(*seen):
+    east, north, up, size = lengths(*seen)
     return (east / size, north / size, up / size)
 
 
@@ -128,18 +136,28 @@ def main():
             sv += [units(v) for v in view(*s, a, r)]
     out += ["/// For each station and each view: east, north and up.", "#[rattlefmt::skip]", f"static SIGHTS: [i64; {len(sv)}] = ["]
     out += ["    " + ", ".join(map(str, sv[i:i + 3])) + "," for i in range(0, len(sv), 3)] + ["];", ""]
+    lv = []
+    for s in STATIONS:
+        for a, r in VIEWS:
+            lv += [units(v) for v in lengths(*s, a, r)]
+    out += ["/// For each station and each view: east, north and up as lengths in Earth radii, and the range.", "#[rattlefmt::skip]", f"static LENGTHS: [i64; {len(lv)}] = ["]
+    out += ["    " + ", ".join(map(str, lv[i:i + 4])) + "," for i in range(0, len(lv), 4)] + ["];", ""]
     out += ["/// A file of stations, each with one of the masks.", "pub const MASKED: &str =\n    \"version = 1\\n" + "".join(
         f"[[station]]\\nname = \\\"{k}\\\"\\nlat = \\\"0\\\"\\nlon = \\\"0\\\"\\nheight = \\\"0\\\"\\nborders = [{quoted(b)}]\\nmasks = [{quoted(f)}]\\n" for k, (b, f) in enumerate(MASKS)) + "\";", ""]
-    jv = []
-    for a, e in JUDGED:
+    jv, rv = [], []
+    for k, (a, e) in enumerate(JUDGED):
         s, c = of_degrees(str(a))
         t, d = of_degrees(e)
         east, north = (0 if a % 180 == 0 else s * d), (0 if a % 180 == 90 else c * d)
         jv += [units(east), units(north), units(t)] + [side(m, a, e) for m in MASKS]
+        far = mp.mpf(RANGES[k % len(RANGES)])
+        rv += [units(east * far), units(north * far), units(t * far), units(far)]
     out += ["/// Masks, and directions at which they are judged.", f"pub const MASKS: usize = {len(MASKS)};", "", f"pub const JUDGED: usize = {len(JUDGED)};", ""]
     out += ["/// Of each direction: east, north and up, in units of 2^-48; then what it is to each mask: 1 above, -1 below, 0 neither.", "#[rattlefmt::skip]", f"static SIDES: [i64; {len(jv)}] = ["]
     out += ["    " + ", ".join(map(str, jv[i:i + 6])) + "," for i in range(0, len(jv), 6)] + ["];", ""]
-    for name, what, table in (("place", "A coordinate of a place.", "PLACES"), ("turn", "A number of a view.", "TURNS"), ("seen", "A component of a direction.", "SIGHTS"), ("judged", "A number of a direction that is judged.", "SIDES")):
+    out += ["/// Each of these directions as lengths at some range, and the range.", "#[rattlefmt::skip]", f"static RANGES: [i64; {len(rv)}] = ["]
+    out += ["    " + ", ".join(map(str, rv[i:i + 4])) + "," for i in range(0, len(rv), 4)] + ["];", ""]
+    for name, what, table in (("place", "A coordinate of a place.", "PLACES"), ("turn", "A number of a view.", "TURNS"), ("seen", "A component of a direction.", "SIGHTS"), ("long", "A length, or a range.", "LENGTHS"), ("judged", "A number of a direction that is judged.", "SIDES"), ("far", "A length, or the range, of such a direction.", "RANGES")):
         out += [f"/// {what}", f"pub fn {name}(k: usize) -> i64 {{", f"    {table}.get(k).copied().unwrap_or(0)", "}", ""]
     open("crates/rows_view/src/expected.rt", "w").write("\n".join(out).rstrip() + "\n")
 

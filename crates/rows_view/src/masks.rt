@@ -1,10 +1,10 @@
 //! Elevation masks, on their borders and between them.
 ghost use Rattle.std.specs.Prelude.{◌<◌};
 
-use crate::expected::{JUDGED, MASKED, MASKS, judged};
+use crate::expected::{JUDGED, MASKED, MASKS, far, judged};
 use fixed_iv::{Iv, Side};
 use station_file::read_stations;
-use station_view::{Sight, Station, judge_mask};
+use station_view::{Lengths, Sight, Station, judge_lengths, judge_mask};
 use std::test::Fail;
 
 /// The interval from a number of units of 2^-48 to the next. An exact 0 stands for itself.
@@ -23,6 +23,18 @@ fn direction(k: usize) -> Sight<Iv>
         east: unit(judged(6 * k)),
         north: unit(judged(6 * k + 1)),
         up: unit(judged(6 * k + 2)),
+    }
+}
+
+/// It as lengths at some range.
+fn lengths(k: usize) -> Lengths<Iv>
+    requires { k < 10000 }
+{
+    Lengths {
+        east: unit(far(4 * k)),
+        north: unit(far(4 * k + 1)),
+        up: unit(far(4 * k + 2)),
+        range: unit(far(4 * k + 3)),
     }
 }
 
@@ -52,6 +64,11 @@ fn masks_are_judged_as_from_outside(rt: HostRuntime) -> Result<(), Fail> {
             assert!(rt;
                 found == expected(k, mask as usize),
                 "mask {mask}, direction {k}"
+            );
+            let found = judge_lengths(&lengths(k), &station.mask);
+            assert!(rt;
+                found == expected(k, mask as usize),
+                "mask {mask}, lengths {k}"
             );
         }
     }
@@ -96,6 +113,26 @@ fn bounds_across_a_border_meet_both_floors(rt: HostRuntime) -> Result<(), Fail> 
     assert!(rt;
         judge_mask(&anywhere, &station.mask) == Side::Yes,
         "unbounded, above all floors"
+    );
+    // the same bounds as lengths from range 2 to 2.1
+    let range = Iv::from_ratio(2, 1).hull(Iv::from_ratio(21, 10));
+    let lengths = Lengths {
+        east: across.east * range,
+        north: across.north * range,
+        up: Iv::from_ratio(137, 100),
+        range,
+    };
+    assert!(rt;
+        judge_lengths(&lengths, &station.mask) == Side::Yes,
+        "above 40 degrees at either range"
+    );
+    let between = Lengths {
+        up: Iv::from_ratio(132, 100),
+        ..lengths
+    };
+    assert!(rt;
+        judge_lengths(&between, &station.mask) == Side::Unsure,
+        "above 40 degrees at the shorter range alone"
     );
     Ok(())
 }

@@ -1,12 +1,12 @@
-//! Places of stations, and the directions at which they see positions, against values from outside.
+//! Places of stations, and the directions and lengths at which they see positions, against values from outside.
 ghost use Rattle.std.specs.Prelude.{◌<◌};
 
-use crate::expected::{FILE, STATIONS, VIEWS, place, seen, turn};
+use crate::expected::{FILE, STATIONS, VIEWS, long, place, seen, turn};
 use earth_frame::Turn;
 use enc_plain::Plain;
 use fixed_iv::{Enc, Iv, Vec3};
 use station_file::read_stations;
-use station_view::{Sight, Station, sight};
+use station_view::{Lengths, Sight, Station, lengths, sight};
 use std::test::Fail;
 
 /// The greatest width of a direction that is expected, in units of 2^-48.
@@ -32,8 +32,8 @@ fn place_holds(v: &Vec3<Iv>, k: usize) -> bool
         && holds(v.z, place(3 * k + 2), 4096)
 }
 
-/// The direction of a view of the table, through any enclosure.
-fn seen_from<E: Enc>(station: &Station, view: usize) -> Option<Sight<E>>
+/// The turn of a view of the table, and its position.
+fn view_of<E: Enc>(view: usize) -> (Turn<E>, Vec3<E>)
     requires { view < 10000 }
 {
     let by = Turn {
@@ -45,7 +45,23 @@ fn seen_from<E: Enc>(station: &Station, view: usize) -> Option<Sight<E>>
         y: unit(turn(5 * view + 3)),
         z: unit(turn(5 * view + 4)),
     };
+    (by, at)
+}
+
+/// The direction of a view of the table, through any enclosure.
+fn seen_from<E: Enc>(station: &Station, view: usize) -> Option<Sight<E>>
+    requires { view < 10000 }
+{
+    let (by, at) = view_of(view);
     sight(station, &by, &at)
+}
+
+/// Its lengths, through any enclosure.
+fn lengths_from<E: Enc>(station: &Station, view: usize) -> Lengths<E>
+    requires { view < 10000 }
+{
+    let (by, at) = view_of(view);
+    lengths(station, &by, &at)
 }
 
 /// Whether the direction holds that of the table which begins there.
@@ -60,6 +76,16 @@ fn sight_holds(seen_at: Option<Sight<Plain>>, start: usize) -> bool
         }
         None => false,
     }
+}
+
+/// Whether the lengths hold those of the table which begin there.
+fn lengths_hold(found: Lengths<Plain>, start: usize) -> bool
+    requires { start < 10000 }
+{
+    holds(found.east.bounds(), long(start), SLIM)
+        && holds(found.north.bounds(), long(start + 1), SLIM)
+        && holds(found.up.bounds(), long(start + 2), SLIM)
+        && holds(found.range.bounds(), long(start + 3), SLIM)
 }
 
 #[test]
@@ -80,6 +106,11 @@ fn places_and_directions_hold_the_values_from_outside(rt: HostRuntime) -> Result
             assert!(rt;
                 sight_holds(seen_from(&station, view), start),
                 "station {k}, view {view}"
+            );
+            let start = 4 * (VIEWS * k as usize + view);
+            assert!(rt;
+                lengths_hold(lengths_from(&station, view), start),
+                "lengths of station {k}, view {view}"
             );
         }
     }

@@ -1,5 +1,5 @@
 -- What the ends of intervals say of held numbers: apart, of a sign, near.
-use Rattle.std.proofs.Common.{arith, [], ◌∷◌, subst, ℕ, ◌+◌, ◌^◌, pos, negsuc, ◌≤ℤ◌, ◌<ℤ◌}
+use Rattle.std.proofs.Common.{arith, ◌⊎◌, inl, inr, [], ◌∷◌, subst, ℕ, ◌+◌, ◌^◌, pos, negsuc, ◌≤ℤ◌, ◌<ℤ◌}
 use Rattle.std.proofs.lemmas.Int.{ints}
 use Rattle.exact.specs.Rational.{ℚ, ◌+ℚ◌, ◌-ℚ◌, ◌*ℚ◌, neg_ℚ, of_int, ratio, zero_ℚ, ◌≤ℚ◌, ◌<ℚ◌}
 use Rattle.exact.proofs.RationalRing.{ring, reads}
@@ -12,7 +12,8 @@ use Rattle.fixed_iv.specs.Holds.{Holds, IsBounded}
 use Rattle.fixed_iv.specs.declared.iv.Iv.{Iv}
 use Rattle.fixed_iv.proofs.HeldLemmas.{holds_difference, holds_product}
 use Rattle.fixed_iv.proofs.OuterLemmas.{width_is}
-use Rattle.station_view.specs.Bounds.{AreAtMost, IsCross, IsNoWiderThan}
+use Rattle.station_view.specs.Bounds.{AreAtMost, IsCross, IsNoWiderThan, LiesOutside}
+use Rattle.station_view.specs.declared.sector.EnclosedSector.{EnclosedSector}
 
 -- the cross product of held numbers is held
 pub holds_cross : {a b c d r : Iv} {x y z w : ℚ} → IsCross a b c d r → Holds a x → Holds b y → Holds c z → Holds d w → Holds r (x *ℚ y -ℚ z *ℚ w)
@@ -38,6 +39,16 @@ no_more_than {v} {x} p h least =
   where
     clash : ratio (pos 1) 1 ≤ℚ zero_ℚ → ⊥
     clash h = not_both (positive_known 0 1) (same_sign (ring [] (search reads depth 90) tt) (gap h))
+
+-- intervals that reach 0 do not lie below it
+pub reaches : (east north : Iv) (e : EnclosedSector) {past short : Iv} → IsCross e.cos_from east e.sin_from north past → IsCross e.sin_to north e.cos_to east short →
+    pos 0 ≤ℤ past.hi → pos 0 ≤ℤ short.hi → ¬ LiesOutside east north e
+reaches east north e {past} {short} of_past of_short p q out =
+    by (out past short of_past of_short)
+  where
+    by : (past.hi <ℤ pos 0) ⊎ (short.hi <ℤ pos 0) → ⊥
+    by (inl h) = omega (arith, ints, h, p)
+    by (inr h) = omega (arith, ints, h, q)
 
 -- so many units
 units : {b : ℚ} (n : ℕ) → AreAtMost b n → of_int (pos n) *ℚ ratio (pos 1) (2 ^ 48) ≤ℚ b

@@ -83,6 +83,13 @@ some_sector N P fact step (e ∷ mask) (s ∷ sectors) held all (zero, x, less, 
 some_sector N P fact step (e ∷ mask) (s ∷ sectors) held all (suc k, x, less, at, p) =
     inr (some_sector N P fact step mask sectors held.1 (λ k d h. all (suc k) d (omega (arith, h))) (k, x, omega (arith, less), at, p))
 
+-- what holds of each one rules out what holds of some
+pub none_and_some : (N P : EnclosedSector → Type 0) → ((e : EnclosedSector) → N e → P e → ⊥) → (mask : List EnclosedSector) → All N mask → Any P mask → ⊥
+none_and_some N P clash [] all (k, x, less, at, p) = omega (arith, less)
+none_and_some N P clash (e ∷ mask) all (zero, x, less, at, p) = clash e (all 0 e (omega arith)) (subst P (sym at) p)
+none_and_some N P clash (e ∷ mask) all (suc k, x, less, at, p) =
+    none_and_some N P clash mask (λ k d h. all (suc k) d (omega (arith, h))) (k, x, omega (arith, less), at, p)
+
 -- ---- the sectors of a row with their ends
 some_is : {X : Type 0} {x y : X} → Some x ≡ Some y → x ≡ y
 some_is {x = x} e = ap (λ o. unwrap_or o x) e

@@ -24,7 +24,7 @@ use Rattle.station_view.specs.Spot.{AreSlim, EnclosePair, IsNoWider}
 use Rattle.station_view.proofs.DegreeLemmas.{some_pi}
 
 -- ---- sines and cosines
-in_turn : (z : ℚ) → IsNear (part 60 +ℚ one_ℚ) z zero_ℚ → Inside turn_range z
+pub in_turn : (z : ℚ) → IsNear (part 60 +ℚ one_ℚ) z zero_ℚ → Inside turn_range z
 unfolding ratio
 in_turn z h = record { low = low; high = high }
   where

@@ -1,21 +1,24 @@
 -- What an enclosed direction covers, and its numerals.
-use Rattle.std.specs.Prelude.{Bool, ◌^◌, pos, negsuc}
-use Rattle.exact.specs.Rational.{ℚ, ratio, ◌<ℚ◌}
+use Rattle.std.specs.Prelude.{◌^◌, pos, negsuc, true}
+use Rattle.exact.specs.Rational.{ratio, ◌<ℚ◌}
 use Rattle.exact.proofs.Intervals.{Interval}
 use Rattle.earth_frame.specs.HeldVector.{VectorReach, rotated}
-use Rattle.fixed_iv.specs.Extent.{Extent}
+use Rattle.fixed_iv.specs.Follows.{Encloses}
 use Rattle.fixed_iv.specs.Place.{Place}
-use Rattle.fixed_iv.specs.Reach.{IsHeld, Reach, claimed, from_to, ◌+ᴿ◌, ◌-ᴿ◌, ◌*ᴿ◌, ◌/ᴿ◌}
+use Rattle.fixed_iv.specs.Reach.{Reach, claimed, from_to, ◌-ᴿ◌, ◌/ᴿ◌}
 use Rattle.fixed_iv.specs.ReachRoots.{rooted}
+use Rattle.fixed_iv.specs.declared.enc.Enc.{Ghosts}
 use Rattle.fixed_iv.specs.declared.iv.Iv.{Iv}
 use Rattle.sgp4_model.specs.Sight.{SightRecord}
+use Rattle.sgp4_periodic.specs.Pairs.{inner_of, most_pair, outer_of}
+use Rattle.station_view.specs.Axes.{inner_reach, slim_number}
 use Rattle.station_view.specs.declared.vector.Sight.{Sight}
 
 -- each component of the direction is covered at the place
-pub record CoversSight {A : Type 0} (covers : A → Place → ℚ → Type 0) (sight : Sight A) (h : Place) (v : SightRecord) : Type 0 where
-  pub east : covers sight.east h v.east
-  pub north : covers sight.north h v.north
-  pub up : covers sight.up h v.up
+pub record CoversSight {A : Type 0} (E : Ghosts A) (sight : Sight A) (h : Place) (v : SightRecord) : Type 0 where
+  pub east : E.covers sight.east h v.east
+  pub north : E.covers sight.north h v.north
+  pub up : E.covers sight.up h v.up
 
 -- numerals for each
 pub record SightReach : Type 0 where
@@ -24,26 +27,14 @@ pub record SightReach : Type 0 where
   pub up : Reach
 
 -- each component is covered at the place, and its enclosure is as its numerals say
-pub record IsHeldSight {A : Type 0} (covers : A → Place → ℚ → Type 0) (extent : A → Extent) (told : Bool) (sight : Sight A) (h : Place) (v : SightRecord) (r : SightReach) : Type 0 where
-  pub east : IsHeld covers extent told sight.east h v.east r.east
-  pub north : IsHeld covers extent told sight.north h v.north r.north
-  pub up : IsHeld covers extent told sight.up h v.up r.up
-
--- of a local axis: each component is at most 1.001 in size, and has a spread of at most 2^8 units
-abbrev pub axis : VectorReach
-axis = record {
-  x = from_to (negsuc 1000) (pos 1001) 1000 (2 ^ 8);
-  y = from_to (negsuc 1000) (pos 1001) 1000 (2 ^ 8);
-  z = from_to (negsuc 1000) (pos 1001) 1000 (2 ^ 8);
-}
+pub record IsHeldSight {A : Type 0} (E : Ghosts A) (sight : Sight A) (h : Place) (v : SightRecord) (r : SightReach) : Type 0 where
+  pub east : Encloses E sight.east h v.east r.east
+  pub north : Encloses E sight.north h v.north r.north
+  pub up : Encloses E sight.up h v.up r.up
 
 -- of a component of a station's place
 abbrev pub place_component : Reach
 place_component = from_to (negsuc 100) (pos 101) 100 (2 ^ 13)
-
--- of an inner product
-abbrev pub inner_reach : VectorReach → VectorReach → Reach
-inner_reach a b = a.x *ᴿ b.x +ᴿ a.y *ᴿ b.y +ᴿ a.z *ᴿ b.z
 
 -- of the vector from the station to a position: from those of the sidereal pair and of the position
 abbrev pub toward_reach : Reach → Reach → VectorReach → VectorReach
@@ -57,13 +48,29 @@ toward_reach sine cosine r = record {
 abbrev pub range_reach : VectorReach → Interval → Reach
 range_reach toward square = rooted (claimed (inner_reach toward toward) square)
 
--- of the direction of a vector, from those of the range
-abbrev pub sight_reach : VectorReach → Reach → SightReach
-sight_reach toward range = record {
-  east = inner_reach toward axis /ᴿ range;
-  north = inner_reach toward axis /ᴿ range;
-  up = inner_reach toward axis /ᴿ range;
+-- numerals for lengths along the local axes, and for the range
+pub record LengthsReach : Type 0 where
+  pub east : Reach
+  pub north : Reach
+  pub up : Reach
+  pub range : Reach
+
+-- away from the Earth's axis, in the plane of the station
+abbrev pub out_reach : VectorReach → Reach
+out_reach toward = inner_of true most_pair slim_number slim_number toward.x toward.y
+
+-- of a vector's lengths, from those of the vector and of the range
+abbrev pub lengths_reach : VectorReach → Reach → LengthsReach
+lengths_reach toward range = record {
+  east = outer_of true most_pair slim_number slim_number toward.y toward.x;
+  north = outer_of true most_pair slim_number slim_number toward.z (out_reach toward);
+  up = inner_of true most_pair slim_number slim_number (out_reach toward) toward.z;
+  range = range;
 }
+
+-- of the direction, from those of the lengths
+abbrev pub sight_reach : LengthsReach → SightReach
+sight_reach l = record { east = l.east /ᴿ l.range; north = l.north /ᴿ l.range; up = l.up /ᴿ l.range }
 
 -- the bounds lie above 1/4096
 abbrev pub LieAbove4096th : Iv → Type 0

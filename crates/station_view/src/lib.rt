@@ -3,6 +3,7 @@
 
 mod axes;
 mod judge;
+pub mod laws;
 mod mask;
 mod place;
 mod sector;
@@ -11,10 +12,11 @@ mod station;
 mod toward;
 mod vector;
 
-pub use judge::judge_mask;
+pub use axes::{inner_product, local_up};
+pub use judge::{judge_lengths, judge_mask};
 pub use mask::Mask;
 pub use sector::EnclosedSector;
 pub use spot::Spot;
 pub use station::Station;
-pub use toward::sight;
-pub use vector::Sight;
+pub use toward::{lengths, sight};
+pub use vector::{Lengths, Sight};

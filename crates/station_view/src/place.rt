@@ -1,19 +1,10 @@
 //! Where a station stands, Earth-fixed.
-ghost use Rattle.std.specs.Prelude.{◌≡◌, pos};
+ghost use Rattle.std.specs.Prelude.{◌≡◌};
 ghost use Rattle.decimals.specs.Decimal.{value};
-ghost use Rattle.earth_frame.specs.HeldVector.{IsHeldVector};
-ghost use Rattle.exact.specs.Rational.{ℚ, ◌+ℚ◌, ◌*ℚ◌, ◌/ℚ◌, one_ℚ};
 ghost use Rattle.fixed_iv.specs.Holds.{IsTightest};
-ghost use Rattle.fixed_iv.specs.Place.{Place};
-ghost use Rattle.fixed_iv.specs.Reach.{IsGiven, IsHeld};
-ghost use Rattle.sgp4_model.specs.Angle.{IsPi, Pair};
-ghost use Rattle.sgp4_model.specs.Degrees.{IsPairOfDegrees};
-ghost use Rattle.sgp4_model.specs.Numerals.{IsDivisor};
-ghost use Rattle.sgp4_model.specs.Root.{IsSqrt};
-ghost use Rattle.sgp4_model.specs.StationPlace.{IsStationPlace, in_km};
-ghost use Rattle.sgp4_model.specs.Vector.{Vector};
+ghost use Rattle.sgp4_model.specs.StationPlace.{in_km};
 ghost use Rattle.sgp4_model.specs.Wgs84.{axes_squared, equator_km};
-ghost use Rattle.station_view.specs.PlaceReach.{axes_reach, equator_reach, height_range, place_reach, stretch_reach};
+ghost use Rattle.station_view.specs.PlaceReach.{EnclosesNumber, IsPlaceOf, IsStretchOf, axes_reach, equator_reach};
 
 use crate::spot::Spot;
 use elements::Decimal;
@@ -30,7 +21,7 @@ pub(crate) fn in_km(height: Decimal) -> Iv
 
 /// The square of the ratio of the ellipsoid's axes.
 fn axes_squared<E: Enc>() -> E
-    ensures { (h : Place) → IsHeld E.covers E.extent E.tells result h axes_squared axes_reach }
+    ensures { EnclosesNumber E.Enc result axes_squared axes_reach }
 {
     E::constant(Iv::from_ratio(
         88_361_856_960_383_362_414_969,
@@ -40,14 +31,14 @@ fn axes_squared<E: Enc>() -> E
 
 /// The ellipsoid's equatorial radius in kilometres.
 fn equator_km<E: Enc>() -> E
-    ensures { (h : Place) → IsHeld E.covers E.extent E.tells result h equator_km equator_reach }
+    ensures { EnclosesNumber E.Enc result equator_km equator_reach }
 {
     E::constant(Iv::from_ratio(6_378_137, 1000))
 }
 
 /// One over the root of the square of the latitude's cosine and the axes' square times that of its sine.
 fn stretch<E: Enc>(spot: &Spot) -> E
-    ensures { (h : Place) (p root : ℚ) (lat : Pair) → IsPi p → IsPairOfDegrees p (value spot.now.lat) lat → IsSqrt (lat.cosine *ℚ lat.cosine +ℚ axes_squared *ℚ (lat.sine *ℚ lat.sine)) root → IsDivisor root → IsHeld E.covers E.extent E.tells result h (one_ℚ /ℚ root) stretch_reach }
+    ensures { IsStretchOf E.Enc spot.now result }
 {
     let sine = E::constant(spot.sin_lat);
     let cosine = E::constant(spot.cos_lat);
@@ -59,7 +50,7 @@ fn stretch<E: Enc>(spot: &Spot) -> E
 
 /// The place at a height in kilometres, in Earth radii.
 pub(crate) fn place_of<E: Enc>(spot: &Spot, height: Iv) -> Vec3<E>
-    ensures { (h : Place) (p x : ℚ) (lat lon : Pair) (place : Vector) → IsPi p → IsPairOfDegrees p (value spot.now.lat) lat → IsPairOfDegrees p (value spot.now.lon) lon → IsGiven height x height_range 2 → IsStationPlace lat lon x place → IsHeldVector E.covers E.extent E.tells result h place place_reach }
+    ensures { IsPlaceOf E.Enc spot.now height result }
 {
     let equator = equator_km::<E>().times(stretch(spot));
     let above = E::constant(height);

@@ -1,8 +1,9 @@
 //! A sector of an elevation mask, with its sines and cosines.
-ghost use Rattle.std.specs.Prelude.{◌≡◌, ◌+◌, ◌<◌, ◌≤◌, length, pos, neg_ℤ, slice_get, MatchOption, Some};
+ghost use Rattle.std.specs.Prelude.{◌≡◌, ◌+◌, ◌<◌, ◌≤◌, length, pos, neg_ℤ, slice_get, Some};
 ghost use Rattle.decimals.specs.Decimal.{value};
 ghost use Rattle.elements.specs.Elements.{IsFromTo};
 ghost use Rattle.station_file.specs.Masks.{IsAzimuth};
+ghost use Rattle.station_view.specs.Borders.{BeginsAt};
 ghost use Rattle.station_view.specs.Spot.{EnclosePair, EncloseSine};
 
 use crate::spot::pair_of;
@@ -30,8 +31,8 @@ pub struct EnclosedSector {
 pub(crate) fn enclosed_at(row: &MaskRow, k: u32) -> EnclosedSector
     requires { k < length row.now }
     ensures sector { Some result.sector ≡ slice_get row.now k }
-    ensures next { k + 1 < length row.now → MatchOption (slice_get row.now (k + 1)) ⊥ (λ next. result.end ≡ next.border) }
-    ensures first { length row.now ≤ k + 1 → MatchOption (slice_get row.now 0) ⊥ (λ first. result.end ≡ first.border) }
+    ensures next { k + 1 < length row.now → BeginsAt result.end (slice_get row.now (k + 1)) }
+    ensures first { length row.now ≤ k + 1 → BeginsAt result.end (slice_get row.now 0) }
 {
     let sector = row.sector(k);
     if k + 1 < row.len() {

@@ -1,47 +1,48 @@
 //! The direction at which a station sees a position.
-ghost use Rattle.std.specs.Prelude.{◌≡◌, ◌↔◌, IfNone, IfSome, IsTrue};
-ghost use Rattle.decimals.specs.Decimal.{value};
-ghost use Rattle.earth_frame.specs.Covered.{CoversVector};
-ghost use Rattle.earth_frame.specs.HeldVector.{IsHeldVector, VectorReach};
-ghost use Rattle.exact.specs.Rational.{ℚ, zero_ℚ};
-ghost use Rattle.exact.proofs.Intervals.{Inside, Interval};
-ghost use Rattle.fixed_iv.specs.Place.{Place};
-ghost use Rattle.fixed_iv.specs.Reach.{IsHeld, Reach};
-ghost use Rattle.sgp4_model.specs.Angle.{IsPi, Pair};
-ghost use Rattle.sgp4_model.specs.Degrees.{IsPairOfDegrees};
-ghost use Rattle.sgp4_model.specs.LocalAxes.{difference};
-ghost use Rattle.sgp4_model.specs.Sidereal.{earth_fixed};
-ghost use Rattle.sgp4_model.specs.Sight.{IsDirection, SightRecord};
-ghost use Rattle.sgp4_model.specs.StationPlace.{IsStationPlace, in_km};
-ghost use Rattle.sgp4_model.specs.Vector.{Vector, inner_product};
-ghost use Rattle.station_view.specs.SightReach.{CoversSight, IsHeldSight, LieAbove4096th, inner_reach, range_reach, sight_reach, toward_reach};
-ghost use Rattle.station_view.specs.Unseen.{IsUnseen};
+ghost use Rattle.std.specs.Prelude.{◌↔◌, IfNone, IfSome, IsTrue};
+ghost use Rattle.station_view.specs.Fine.{AreNarrowWhereFine, IsNarrowWhereFine};
+ghost use Rattle.station_view.specs.Lengths.{AreLengthsOf, CoversEachLengths, HoldsEachLengths, IsDirectionOf};
+ghost use Rattle.station_view.specs.SightReach.{LieAbove4096th};
+ghost use Rattle.station_view.specs.Toward.{CoversEachSight, HoldsEachSight, HoldsEachToward, IsUnseen};
 
-use crate::axes::{inner_product, local_east, local_north, local_up};
+use crate::axes::{inner_product, turned};
 use crate::spot::Spot;
 use crate::station::Station;
-use crate::vector::Sight;
+use crate::vector::{Lengths, Sight};
 use earth_frame::{Turn, to_earth};
 use fixed_iv::{Enc, Iv, Vec3};
 
 /// The direction at which the station sees a position, which is in Earth radii and in the frame of the true equator and the
 /// mean equinox. None where the bounds of the square of the range do not lie above 1/4096.
 pub fn sight<E: Enc>(station: &Station, turn: &Turn<E>, pos: &Vec3<E>) -> Option<Sight<E>>
-    ensures covers { IfSome result (λ sight. (h : Place) (p : ℚ) (f l pair : Pair) (place r : Vector) (v : SightRecord) → IsPi p → IsPairOfDegrees p (value station.now.spot.lat) f → IsPairOfDegrees p (value station.now.spot.lon) l → IsStationPlace f l (in_km (value station.now.height)) place → E.covers turn.now.sin h pair.sine → E.covers turn.now.cos h pair.cosine → CoversVector E.covers pos.now h r → IsDirection f l (difference (earth_fixed pair r) place) v → CoversSight E.covers sight h v) }
-    ensures held { IfSome result (λ sight. (h : Place) (p : ℚ) (f l pair : Pair) (place r : Vector) (v : SightRecord) (sine cosine : Reach) (n : VectorReach) (square : Interval) → IsPi p → IsPairOfDegrees p (value station.now.spot.lat) f → IsPairOfDegrees p (value station.now.spot.lon) l → IsStationPlace f l (in_km (value station.now.height)) place → IsHeld E.covers E.extent E.tells turn.now.sin h pair.sine sine → IsHeld E.covers E.extent E.tells turn.now.cos h pair.cosine cosine → IsHeldVector E.covers E.extent E.tells pos.now h r n → IsDirection f l (difference (earth_fixed pair r) place) v → Inside square (inner_product (difference (earth_fixed pair r) place) (difference (earth_fixed pair r) place)) → IsHeldSight E.covers E.extent E.tells sight h v (sight_reach (toward_reach sine cosine n) (range_reach (toward_reach sine cosine n) square))) }
-    ensures none { IfNone result (IsUnseen E.covers E.extent E.tells station.now turn.now pos.now) }
+    ensures covers { IfSome result (CoversEachSight E.Enc station.now turn.now pos.now) }
+    ensures held { IfSome result (HoldsEachSight E.Enc station.now turn.now pos.now) }
+    ensures narrow { IfSome result (IsNarrowWhereFine E.Enc station.now turn.now pos.now) }
+    ensures none { IfNone result (IsUnseen E.Enc station.now turn.now pos.now) }
 {
     let toward = toward(station, turn, pos);
     let square = inner_product(&toward, &toward);
     if !lie_above_4096th(square.bounds()) {
         return None;
     }
-    Some(direction(&station.spot, &toward, square.sqrt()))
+    Some(direction(&along(&station.spot, &toward, square.sqrt())))
+}
+
+/// The vector from the station to a position as lengths along the local axes, and the range: in Earth radii, as the position,
+/// which is in the frame of the true equator and the mean equinox.
+pub fn lengths<E: Enc>(station: &Station, turn: &Turn<E>, pos: &Vec3<E>) -> Lengths<E>
+    ensures covers { CoversEachLengths E.Enc station.now turn.now pos.now result }
+    ensures held { HoldsEachLengths E.Enc station.now turn.now pos.now result }
+    ensures narrow { AreNarrowWhereFine E.Enc station.now turn.now pos.now result }
+{
+    let toward = toward(station, turn, pos);
+    let range = inner_product(&toward, &toward).sqrt();
+    along(&station.spot, &toward, range)
 }
 
 /// The vector from the station to a position, Earth-fixed.
 fn toward<E: Enc>(station: &Station, turn: &Turn<E>, pos: &Vec3<E>) -> Vec3<E>
-    ensures { (h : Place) (p : ℚ) (f l pair : Pair) (place r : Vector) (sine cosine : Reach) (n : VectorReach) → IsPi p → IsPairOfDegrees p (value station.now.spot.lat) f → IsPairOfDegrees p (value station.now.spot.lon) l → IsStationPlace f l (in_km (value station.now.height)) place → IsHeld E.covers E.extent E.tells turn.now.sin h pair.sine sine → IsHeld E.covers E.extent E.tells turn.now.cos h pair.cosine cosine → IsHeldVector E.covers E.extent E.tells pos.now h r n → IsHeldVector E.covers E.extent E.tells result h (difference (earth_fixed pair r) place) (toward_reach sine cosine n) }
+    ensures { HoldsEachToward E.Enc station.now turn.now pos.now result }
 {
     let fixed = to_earth(turn, pos);
     Vec3 {
@@ -59,13 +60,27 @@ fn lie_above_4096th(bounds: Iv) -> bool
     low > 68_719_476_736
 }
 
+/// A vector along the local axes, with its length.
+fn along<E: Enc>(spot: &Spot, toward: &Vec3<E>, range: E) -> Lengths<E>
+    ensures { AreLengthsOf E.Enc spot.now toward.now range result }
+{
+    let (out, east) = turned(spot.sin_lon, spot.cos_lon, toward.x, toward.y);
+    let (up, north) = turned(spot.sin_lat, spot.cos_lat, out, toward.z);
+    Lengths {
+        east,
+        north,
+        up,
+        range,
+    }
+}
+
 /// The direction of a vector, along the local axes.
-fn direction<E: Enc>(spot: &Spot, toward: &Vec3<E>, range: E) -> Sight<E>
-    ensures { (h : Place) (p : ℚ) (f l : Pair) (d : Vector) (v : SightRecord) (n : VectorReach) (r : Reach) → IsPi p → IsPairOfDegrees p (value spot.now.lat) f → IsPairOfDegrees p (value spot.now.lon) l → IsHeldVector E.covers E.extent E.tells toward.now h d n → (is : IsDirection f l d v) → IsHeld E.covers E.extent E.tells range h is.range r → IsHeldSight E.covers E.extent E.tells result h v (sight_reach n r) }
+fn direction<E: Enc>(lengths: &Lengths<E>) -> Sight<E>
+    ensures { IsDirectionOf E.Enc lengths.now result }
 {
     Sight {
-        east: inner_product(toward, &local_east(spot)).divided(range),
-        north: inner_product(toward, &local_north(spot)).divided(range),
-        up: inner_product(toward, &local_up(spot)).divided(range),
+        east: lengths.east.divided(lengths.range),
+        north: lengths.north.divided(lengths.range),
+        up: lengths.up.divided(lengths.range),
     }
 }

@@ -5,4 +5,4 @@ use Rattle.station_view.proofs.judge.are_above_up.Given as goal
 
 -- so it is in each sector so far
 abbrev pub invariant-loop-sector : goal.invariant-loop-sector
-invariant-loop-sector l = (k : ℕ) → k < l.sector-index → (d : EnclosedSector) → BelowThroughout l.sight (slice_index_or l.sectors k d)
+invariant-loop-sector l = (k : ℕ) → k < l.sector-index → (d : EnclosedSector) → BelowThroughout l.lengths (slice_index_or l.sectors k d)

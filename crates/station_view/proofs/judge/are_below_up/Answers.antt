@@ -13,4 +13,4 @@ loop-sector-preserved c =
     let sure : IsTrue c.is_below_up.result = grind (arith, c.if-not-is_below_up.false) in
     below_more _ _ c.loop-sector.invariant (λ d.
     let item : slice_index_or c.args.sectors.now c.loop-sector.sector-index d ≡ c.sector-item.result = grind (arith, common_steps) in
-    subst (AboveThroughout c.args.sight.now) (sym item) (c.is_below_up.ensures.sure sure))
+    subst (AboveThroughout c.args.lengths.now) (sym item) (c.is_below_up.ensures.sure sure))

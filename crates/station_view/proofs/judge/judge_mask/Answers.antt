@@ -1,26 +1,20 @@
-use Rattle.std.proofs.Common.{arith, IsTrue}
-use Rattle.exact.specs.Rational.{◌<ℚ◌}
-use Rattle.sgp4_model.specs.Sectors.{HoldsDirection, SectorSides}
-use Rattle.station_view.specs.Judged.{AboveThroughout, BelowThroughout}
-use Rattle.station_view.proofs.MaskLemmas.{every_sector, mask_held, some_sector}
+use Rattle.std.proofs.Common.{subst}
+use Rattle.sgp4_model.specs.Mask.{GrazesBy}
+use Rattle.sgp4_model.specs.Sectors.{sides_of}
+use Rattle.exact.specs.Rational.{one_ℚ}
+use Rattle.station_view.specs.Judged.{AreNarrowLengths}
+use Rattle.station_view.proofs.OneLemmas.{hold_at_one, lengths_at, narrow_at_one, one_above}
+use Rattle.station_view.proofs.ScaleLemmas.{over_one}
 use Rattle.station_view.proofs.judge.judge_mask.Goals as goal
 
-pub returns-then-are_below_up-clause-yes : goal.returns-then-are_below_up-clause-yes
-returns-then-are_below_up-clause-yes c _ pi pairs v is_pi are sight =
-    every_sector (AboveThroughout c.args.sight.now) (λ (s : SectorSides). HoldsDirection s v → s.floor <ℚ v.up) (λ e s held sure. sure s v held sight) c.args.mask.now _ (mask_held pi c.args.mask.now pairs c.sectors-sectors.ensures.mask is_pi are)
-    (rw c.sectors-sectors.ensures.value at (c.are_below_up.ensures.each c.if-are_below_up.true))
+pub returns-clause-yes : goal.returns-clause-yes
+returns-clause-yes c e pi pairs v is_pi are hold = c.judge_lengths.ensures.yes e pi pairs v one_ℚ is_pi are one_above (hold_at_one _ v c.one.ensures.low c.one.ensures.high hold)
 
-pub returns-then-are_above_up-clause-no : goal.returns-then-are_above_up-clause-no
-returns-then-are_above_up-clause-no c _ pi pairs v is_pi are sight =
-    every_sector (BelowThroughout c.args.sight.now) (λ (s : SectorSides). HoldsDirection s v → v.up <ℚ s.floor) (λ e s held sure. sure s v held sight) c.args.mask.now _ (mask_held pi c.args.mask.now pairs c.sectors-sectors.ensures.mask is_pi are)
-    (rw c.sectors-sectors.ensures.value at (c.are_above_up.ensures.each c.if-are_above_up.true))
+pub returns-clause-no : goal.returns-clause-no
+returns-clause-no c e pi pairs v is_pi are hold = c.judge_lengths.ensures.no e pi pairs v one_ℚ is_pi are one_above (hold_at_one _ v c.one.ensures.low c.one.ensures.high hold)
 
-pub returns-else-are_above_up-clause-unsure : goal.returns-else-are_above_up-clause-unsure
-returns-else-are_above_up-clause-unsure c _ b narrow pi pairs v is_pi are sight =
-    let held = mask_held pi c.args.mask.now pairs c.sectors-sectors.ensures.mask is_pi are in
-    let low : ¬ IsTrue c.are_below_up.result = λ u. grind (arith, c.if-are_below_up.false, u) in
-    let high : ¬ IsTrue c.are_above_up.result = λ u. grind (arith, c.if-are_above_up.false, u) in
-    record {
-      low = some_sector _ _ _ (λ e s sides near sure. sure b near s v sides sight) c.args.mask.now _ held narrow (rw c.sectors-sectors.ensures.value at (c.are_below_up.ensures.some low));
-      high = some_sector _ _ _ (λ e s sides near sure. sure b near s v sides sight) c.args.mask.now _ held narrow (rw c.sectors-sectors.ensures.value at (c.are_above_up.ensures.some high));
-    }
+pub returns-clause-unsure : goal.returns-clause-unsure
+returns-clause-unsure c e b narrow pi pairs v is_pi are hold =
+    let all : AreNarrowLengths b (lengths_at c.args.sight.now c.one.result) c.args.mask.now = λ k d h. narrow_at_one b c.args.sight.now _ _ c.one.ensures.low c.one.ensures.high (narrow k d h) in
+    subst (λ t. GrazesBy t (sides_of pairs) v) (over_one b)
+    (c.judge_lengths.ensures.unsure e b all pi pairs v one_ℚ is_pi are one_above (hold_at_one _ v c.one.ensures.low c.one.ensures.high hold))

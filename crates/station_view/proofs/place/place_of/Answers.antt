@@ -9,23 +9,23 @@ use Rattle.station_view.proofs.place.place_of.Goals as goal
 
 pub returns : goal.returns
 unfolding given ◌+ᴿ◌ ◌*ᴿ◌ ◌/ᴿ◌
-returns g c h p x lat lon place pi is_lat is_lon height is =
+returns g c h p x lat lon place are height is =
     let law = g.met.E.Enc.contained in
     let spot = c.args.spot.now in
     let root = subst (λ t. IsSqrt t is.root) (under_root_is lat.sine lat.cosine) is.root_is in
-    let stretched = c.stretch.ensures h p is.root lat pi is_lat root is.root_divides in
+    let stretched = c.stretch.ensures h p is.root lat lon are root is.root_divides in
     let equator = times_held law c.times-equator.ensures.covers c.times-equator.ensures.narrow (c.equator_km.ensures h) stretched in
     let above = constant_held c.constant-above.ensures.covers c.constant-above.ensures.narrow height in
     let radius = constant_held c.constant-radius.ensures.covers c.constant-radius.ensures.narrow (ratio_given (pos 6378135) 999 1 c.from_ratio.ensures tt tt) in
-    let cos_lat = constant_held c.constant.ensures.covers c.constant.ensures.narrow (slim_cosine spot.of_lat spot.lat_slim pi is_lat) in
+    let cos_lat = constant_held c.constant.ensures.covers c.constant.ensures.narrow (slim_cosine spot.of_lat spot.lat_slim are.is_pi are.is_latitude) in
     let out = plus_held law c.plus.ensures.covers c.plus.ensures.narrow equator above in
     let level = divided_held law c.divided-level.ensures.covers c.divided-level.ensures.narrow radius_divides (times_held law c.times.ensures.covers c.times.ensures.narrow out cos_lat) radius in
     let polar = times_held law c.times-2.ensures.covers c.times-2.ensures.narrow equator (c.axes_squared.ensures h) in
     let up = plus_held law c.plus-2.ensures.covers c.plus-2.ensures.narrow polar above in
-    let sin_lat = constant_held c.constant-2.ensures.covers c.constant-2.ensures.narrow (slim_sine spot.of_lat spot.lat_slim pi is_lat) in
+    let sin_lat = constant_held c.constant-2.ensures.covers c.constant-2.ensures.narrow (slim_sine spot.of_lat spot.lat_slim are.is_pi are.is_latitude) in
     let axial = times_held law c.times-axial.ensures.covers c.times-axial.ensures.narrow up sin_lat in
-    let cos_lon = constant_held c.constant-3.ensures.covers c.constant-3.ensures.narrow (slim_cosine spot.of_lon spot.lon_slim pi is_lon) in
-    let sin_lon = constant_held c.constant-4.ensures.covers c.constant-4.ensures.narrow (slim_sine spot.of_lon spot.lon_slim pi is_lon) in
+    let cos_lon = constant_held c.constant-3.ensures.covers c.constant-3.ensures.narrow (slim_cosine spot.of_lon spot.lon_slim are.is_pi are.is_longitude) in
+    let sin_lon = constant_held c.constant-4.ensures.covers c.constant-4.ensures.narrow (slim_sine spot.of_lon spot.lon_slim are.is_pi are.is_longitude) in
     let first = times_held law c.times-3.ensures.covers c.times-3.ensures.narrow level cos_lon in
     let second = times_held law c.times-4.ensures.covers c.times-4.ensures.narrow level sin_lon in
     let third = divided_held law c.divided.ensures.covers c.divided.ensures.narrow radius_divides axial radius in
