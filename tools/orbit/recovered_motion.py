@@ -88,6 +88,9 @@ def refusals():
             rows += [(eight(last - 40), ecc, incl, "0"), (eight(last + 40), ecc, incl, "0")]
         last = edge("7", "6.3", ecc, incl, lambda s: period(s) < 225)
         rows += [(eight(last + 40), ecc, incl, "0"), (eight(last - 40), ecc, incl, "0")]
+    for ecc, incl in (("0", "0"), ("0.1", "60")):
+        last = edge("9", "16.9", ecc, incl, lambda s: perigee(s) >= 220)
+        rows += [(eight(last - 40), ecc, incl, "0"), (eight(last), ecc, incl, "0"), (eight(last + 40), ecc, incl, "0")]
     return rows
 
 

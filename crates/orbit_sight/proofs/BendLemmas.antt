@@ -9,6 +9,8 @@ use Rattle.exact.proofs.Strict.{Positive, le_of_lt, le_quotient, mul_inverse, no
 use Rattle.sgp4_model.specs.Angle.{IsNear}
 use Rattle.sgp4_model.specs.Constants.{InitRecord, IsConsts}
 use Rattle.sgp4_model.specs.Drag.{near_circle}
+use Rattle.sgp4_model.specs.MeanMotion.{IsFullMotion, perigee_of}
+use Rattle.sgp4_model.specs.Numerals.{whole}
 use Rattle.sgp4_model.specs.OrbitRecords.{ConstRecord}
 use Rattle.sgp4_model.specs.Records.{SetRecord}
 use Rattle.sgp4_model.specs.Wgs72.{density_base_km, density_top_km, earth_radius_km}
@@ -124,17 +126,19 @@ bend_inside set pi k constants perigee low positive of_b =
     of_init : ratio (pos 10470) 10000 ≤ℚ v.motion.a *ℚ (one_ℚ -ℚ v.motion.e) → zero_ℚ ≤ℚ v.motion.e → zero_ℚ ≤ℚ v.motion.a → IsNear (ratio (pos 1) 1000) v.epoch.bstar zero_ℚ →
         Inside (between (negsuc 85) 10000 (pos 86) 10000) (v.coefficients.xmcof *ℚ v.density.eta)
     of_init perigee low positive of_b =
-        by_test (at_least_0 (near_circle -ℚ v.motion.e)) (λ t. none (record { le = t })) (λ t. some (record { lt = t }))
+        by_test (at_least_0 (near_circle -ℚ v.motion.e)) (λ t. nothing (constants.initialised.remaining.xmcof_is_else (record { le = t })))
+        (λ t. by_test (at_least_0 (perigee_of v.motion -ℚ whole 220)) (λ f. some (record { lt = t }) (record { le = f }))
+        (λ f. nothing (constants.initialised.remaining.xmcof_is_simple (record { lt = f }))))
       where
-        none : v.motion.e ≤ℚ near_circle → Inside (between (negsuc 85) 10000 (pos 86) 10000) (v.coefficients.xmcof *ℚ v.density.eta)
-        none h =
-            subst (λ t. Inside (between (negsuc 85) 10000 (pos 86) 10000) (t *ℚ v.density.eta)) (sym (constants.initialised.remaining.xmcof_is_else h))
+        nothing : v.coefficients.xmcof ≡ zero_ℚ → Inside (between (negsuc 85) 10000 (pos 86) 10000) (v.coefficients.xmcof *ℚ v.density.eta)
+        nothing is =
+            subst (λ t. Inside (between (negsuc 85) 10000 (pos 86) 10000) (t *ℚ v.density.eta)) (sym is)
             (inside (negsuc 85) 10000 (pos 86) 10000 (le_by (v.density.eta ∷ []) (known 86 10000) (search reads depth 90) tt) (le_by (v.density.eta ∷ []) (known 86 10000) (search reads depth 90) tt))
 
-        some : near_circle <ℚ v.motion.e → Inside (between (negsuc 85) 10000 (pos 86) 10000) (v.coefficients.xmcof *ℚ v.density.eta)
-        some h =
+        some : near_circle <ℚ v.motion.e → IsFullMotion v.motion → Inside (between (negsuc 85) 10000 (pos 86) 10000) (v.coefficients.xmcof *ℚ v.density.eta)
+        some h full =
             let terms = constants.initialised.density_terms in
             let x = xi_small v.motion.a v.motion.e v.density.s v.density.xi perigee low positive terms.s_is terms.xi_is in
-            subst (λ t. Inside (between (negsuc 85) 10000 (pos 86) 10000) (t *ℚ v.density.eta)) (sym (constants.initialised.remaining.xmcof_is h))
-            (bend_near v.motion.e v.density.eta v.density.coef v.epoch.bstar (constants.initialised.remaining.e_eta_divides h) (le_of_lt h)
+            subst (λ t. Inside (between (negsuc 85) 10000 (pos 86) 10000) (t *ℚ v.density.eta)) (sym (constants.initialised.remaining.xmcof_is full h))
+            (bend_near v.motion.e v.density.eta v.density.coef v.epoch.bstar (constants.initialised.remaining.e_eta_divides full h) (le_of_lt h)
             (term_small v.density.qs v.density.xi v.density.coef x.0 x.1 terms.qs_is terms.coef_is) of_b)

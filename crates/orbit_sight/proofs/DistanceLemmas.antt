@@ -13,11 +13,11 @@ use Rattle.sgp4_model.specs.Position.{PeriodicRecord, IsPositionUnguarded}
 use Rattle.sgp4_model.specs.Vector.{Vector}
 use Rattle.sgp4_model.proofs.Pythagoras.{sine_pairs_are_bounded, squares_add_up_to_one}
 use Rattle.orbit_sight.proofs.NearOrbitLemmas.{axis, eccentricity, turn, tilt, first, second, product, length, small_product, distance, latitude, ends, pairs_near, reciprocal, axis_above, axis_inside, eccentricity_inside, mean_rectum_above, pairs_below, turn_inside, reciprocal_inside}
-use Rattle.orbit_sight.proofs.PeriodicLemmas.{tilt_inside, first_inside, second_inside, sizes_below, inner_inside, outer_inside, length_inside, inner_below, inner_small, change_small, distance_from, distance_inside, root_inside, rectum_above, factors_inside, corrected_above}
+use Rattle.orbit_sight.proofs.PeriodicLemmas.{tilt_inside, first_inside, second_inside, sizes_below, inner_inside, outer_inside, length_inside, inner_below, inner_small, change_small, distance_from, distance_inside, root_inside, rectum_above, factors_inside, corrected_above, corrected_below, distance_most}
 use Rattle.sgp4_periodic.proofs.PairLemmas.{pair_sized}
 use Rattle.sgp4_periodic.specs.Box.{IsInBox}
 use Rattle.kepler_enc.specs.Guess.{AreSized}
-use Rattle.orbit_sight.proofs.LatitudeLemmas.{both_above, both_below, length_above, sine_small, squares_above, squares_below}
+use Rattle.orbit_sight.proofs.LatitudeLemmas.{both_above, both_below, length_within, sine_small, squares_above, squares_below}
 use Rattle.orbit_sight.specs.TakenBoxes.{taken_position}
 
 -- what is known of the constants and mean elements of an orbit whose perigee is at least 300 km high, within seven days of its epoch
@@ -126,6 +126,9 @@ module _ (k : ConstRecord) (m : MeanRecord) (q : PeriodicRecord) (factor pi root
       (squares_add_up_to_one pi m.wm q.of_wm.sine q.of_wm.cosine is_pi position.long_period.wm_pair)
       (squares_add_up_to_one pi root q.of_root.sine q.of_root.cosine is_pi position.kepler.pair)))
 
+  of_small_distance : Inside (between (pos 1038) 1000 (pos 2330) 1000) q.rl
+  of_small_distance = subst (Inside (between (pos 1038) 1000 (pos 2330) 1000)) (sym position.preliminaries.rl_is) (inside (pos 1038) 1000 (pos 2330) 1000 distance_low (distance_most m.am q.ec of_axis of_small_inner))
+
   near_square : ratio (pos 6) 10 ≤ℚ (one_ℚ -ℚ q.ec) *ℚ (one_ℚ -ℚ q.ec)
   near_square =
       let high = (ends (negsuc 2022) 10000 (pos 2023) 10000 of_small_inner).1 in
@@ -233,10 +236,15 @@ module _ (k : ConstRecord) (m : MeanRecord) (q : PeriodicRecord) (factor pi root
       rw (position.short_period.mrt_is, position.argument_of_latitude.c2_is)
       (corrected_above q.rl q.k1 q.k2 q.b k.con41 k.c q.su of_distance of_factor of_second_factor of_square_root (inside (negsuc 1000) 1000 (pos 2001) 1000 orbit.con41_low orbit.con41_high) of_inclination of_latitudes.0)
 
+  corrected_most : q.mrt ≤ℚ ratio (pos 24) 10
+  corrected_most =
+      rw (position.short_period.mrt_is, position.argument_of_latitude.c2_is)
+      (corrected_below q.rl q.k1 q.k2 q.b k.con41 k.c q.su of_small_distance of_factor of_second_factor of_square_root (inside (negsuc 1000) 1000 (pos 2001) 1000 orbit.con41_low orbit.con41_high) of_inclination of_latitudes.0)
+
   -- ---- the position
-  far_away : ratio (pos 1069) 1000 ≤ℚ r.x *ℚ r.x +ℚ r.y *ℚ r.y +ℚ r.z *ℚ r.z
+  far_away : (ratio (pos 1069) 1000 ≤ℚ r.x *ℚ r.x +ℚ r.y *ℚ r.y +ℚ r.z *ℚ r.z) × (r.x *ℚ r.x +ℚ r.y *ℚ r.y +ℚ r.z *ℚ r.z ≤ℚ ratio (pos 121) 10)
   far_away =
-      length_above q.mrt q.of_xnode.sine q.of_xnode.cosine q.of_xinc.sine q.of_xinc.cosine q.su q.cu q.of_du.sine q.of_du.cosine q.sw q.cw r.x r.y r.z corrected latitudes_above of_latitudes.0 of_latitudes.1
+      length_within q.mrt q.of_xnode.sine q.of_xnode.cosine q.of_xinc.sine q.of_xinc.cosine q.su q.cu q.of_du.sine q.of_du.cosine q.sw q.cw r.x r.y r.z corrected corrected_most latitudes_above of_latitudes.0 of_latitudes.1
       (squares_add_up_to_one pi q.xnode q.of_xnode.sine q.of_xnode.cosine is_pi position.vector.xnode_pair) (squares_add_up_to_one pi q.xinc q.of_xinc.sine q.of_xinc.cosine is_pi position.vector.xinc_pair)
       (squares_add_up_to_one pi q.du q.of_du.sine q.of_du.cosine is_pi position.corrected_latitude.du_pair)
       (turn_inside (sine_pairs_are_bounded pi q.xinc q.of_xinc.sine q.of_xinc.cosine is_pi position.vector.xinc_pair).1) in_box.change
@@ -251,7 +259,7 @@ distance_above k m q factor pi root r is_pi orbit position = corrected k m q fac
 pub position_in_box : (k : ConstRecord) (m : MeanRecord) (q : PeriodicRecord) (factor pi root : ℚ) (r : Vector) → IsPi pi → IsNearOrbit k m factor → IsPositionUnguarded k m q pi root r → IsInBox q taken_position
 position_in_box k m q factor pi root r is_pi orbit position = in_box k m q factor pi root r is_pi orbit position
 
--- the position is at least 1.033 Earth radii from the Earth's centre
-pub position_above : (k : ConstRecord) (m : MeanRecord) (q : PeriodicRecord) (factor pi root : ℚ) (r : Vector) → IsPi pi → IsNearOrbit k m factor → IsPositionUnguarded k m q pi root r →
-    ratio (pos 1069) 1000 ≤ℚ r.x *ℚ r.x +ℚ r.y *ℚ r.y +ℚ r.z *ℚ r.z
-position_above k m q factor pi root r is_pi orbit position = far_away k m q factor pi root r is_pi orbit position
+-- the position is at least 1.033 Earth radii from the Earth's centre, and at most 3.48
+pub position_within : (k : ConstRecord) (m : MeanRecord) (q : PeriodicRecord) (factor pi root : ℚ) (r : Vector) → IsPi pi → IsNearOrbit k m factor → IsPositionUnguarded k m q pi root r →
+    (ratio (pos 1069) 1000 ≤ℚ r.x *ℚ r.x +ℚ r.y *ℚ r.y +ℚ r.z *ℚ r.z) × (r.x *ℚ r.x +ℚ r.y *ℚ r.y +ℚ r.z *ℚ r.z ≤ℚ ratio (pos 121) 10)
+position_within k m q factor pi root r is_pi orbit position = far_away k m q factor pi root r is_pi orbit position

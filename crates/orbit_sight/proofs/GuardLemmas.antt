@@ -16,14 +16,14 @@ use Rattle.fixed_iv.proofs.EndLemmas.{at, at_le, le_at}
 use Rattle.fixed_iv.proofs.Held.{Contained, within}
 use Rattle.fixed_iv.proofs.OuterLemmas.{in_outer, number_ratio, size_known}
 use Rattle.kepler_enc.specs.Guard.{IsUnguarded}
-use Rattle.sgp4_drag.specs.Secular.{reach_ecc, reach_mean}
-use Rattle.sgp4_drag.specs.Guard.{IsInsideGuard}
+use Rattle.sgp4_drag.specs.Secular.{reach_am, reach_ecc, reach_mean}
+use Rattle.sgp4_drag.specs.Guard.{AreAtLeast1, IsInsideGuard}
 use Rattle.sgp4_model.specs.MeanElements.{IsEccentricityGuarded}
 use Rattle.sgp4_model.specs.OrbitRecords.{MeanRecord}
 use Rattle.sgp4_model.specs.Vector.{Vector}
 use Rattle.sgp4_periodic.specs.Covered.{IsHeldPosition, PositionReach}
 use Rattle.sgp4_periodic.specs.Ellipse.{reach_ellipse}
-use Rattle.sgp4_periodic.specs.Guards.{AreAtLeast1, LieAbove0}
+use Rattle.sgp4_periodic.specs.Guards.{AreDistant, LieAbove0}
 use Rattle.sgp4_periodic.specs.Placed.{reach_at, reach_place}
 use Rattle.sgp4_shape.specs.HeldConsts.{ConstReach}
 use Rattle.sgp4_shape.specs.HeldMean.{IsHeldMean}
@@ -42,14 +42,14 @@ in_parts : (z : ℤ) → at z ≡ ratio z (2 ^ 48)
 unfolding at
 in_parts z = sym (ratio_is_product z 281474976710656)
 
-low_inside : (e : Extent) (x : ℚ) (r : Reach) → IsKnown e x r.range r.spread → Holds e.ends x → Inside (outer r) (ratio e.ends.lo (2 ^ 48))
+pub low_inside : (e : Extent) (x : ℚ) (r : Reach) → IsKnown e x r.range r.spread → Holds e.ends x → Inside (outer r) (ratio e.ends.lo (2 ^ 48))
 low_inside e x r k h = subst (Inside (outer r)) (in_parts e.ends.lo) (in_outer e x r k h (at e.ends.lo) (low_held e.ends))
 
 high_inside : (e : Extent) (x : ℚ) (r : Reach) → IsKnown e x r.range r.spread → Holds e.ends x → Inside (outer r) (ratio e.ends.hi (2 ^ 48))
 high_inside e x r k h = subst (Inside (outer r)) (in_parts e.ends.hi) (in_outer e x r k h (at e.ends.hi) (high_held e.ends))
 
 -- a number inside a range that begins, or ends, at some fraction
-above : (m : ℤ) (d : ℕ) (c : Coef) (z : ℚ) → T (coef_le (record { num = m; under = d }) c) → number_of c ≤ℚ z → ratio m (suc d) ≤ℚ z
+pub above : (m : ℤ) (d : ℕ) (c : Coef) (z : ℚ) → T (coef_le (record { num = m; under = d }) c) → number_of c ≤ℚ z → ratio m (suc d) ≤ℚ z
 above m d c z t h = le_trans (subst (λ y. y ≤ℚ number_of c) (number_ratio (record { num = m; under = d })) (coef_le_holds (record { num = m; under = d }) c t)) h
 
 below : (m : ℤ) (d : ℕ) (c : Coef) (z : ℚ) → T (coef_le c (record { num = m; under = d })) → z ≤ℚ number_of c → z ≤ℚ ratio m (suc d)
@@ -102,6 +102,13 @@ module _ {A : Type 0} {C : A → Place → ℚ → Type 0} {E : A → Extent} {t
       between : (z : ℚ) → Inside (outer b.eccentricity) z → IsEccentricityGuarded z
       between z i = guarded_between z (above (negsuc 0) 999 _ z fit.certifies.eccentricity_low i.low) (below (pos 1) 1 _ z fit.certifies.eccentricity_high i.high)
 
+  -- ---- the semimajor axis
+  pub axis_certified : (a : A) (x : ℚ) → IsHeld C E told a h x (reach_am k b.time) → AreAtLeast1 (E a).ends
+  axis_certified a x held =
+      let w = within b.mean.am held fit.mean.am in
+      let low = low_inside (E a) x b.mean.am (w.known is_told fit.certifies.axis_ok) (law a h x w.covers) in
+      above (pos 1) 0 _ _ fit.certifies.axis_high low.low
+
   -- ---- Kepler's equation
   pub vector_certified : (a c : A) (x y : ℚ) → IsHeld C E told a h x (reach_ellipse k b.mean).ax → IsHeld C E told c h y (reach_ellipse k b.mean).ay → IsUnguarded (E a).ends (E c).ends → ⊥
   vector_certified a c x y f g u =
@@ -122,9 +129,9 @@ module _ {A : Type 0} {C : A → Place → ℚ → Type 0} {E : A → Extent} {t
       half_above_0 _ (above (pos 1) 1 _ _ fit.certifies.rectum_high low.low)
 
   -- ---- the distance
-  pub distance_certified : (a : A) (x : ℚ) → IsHeld C E told a h x (reach_at k b.mean b.position).mrt → number_of b.far ≤ℚ x → AreAtLeast1 (E a).ends
+  pub distance_certified : (a : A) (x : ℚ) → IsHeld C E told a h x (reach_at k b.mean b.position).mrt → number_of b.far ≤ℚ x → AreDistant (E a).ends
   distance_certified a x held far =
       let w = within b.distance held fit.position.distance in
       let f = w.known is_told fit.certifies.distance_ok in
       let low = low_inside (E a) x (far_distance b) (record { inside = record { low = far; high = f.inside.high }; measured = f.measured; narrow = f.narrow }) (law a h x w.covers) in
-      above (pos 1) 0 _ _ fit.certifies.distance_high low.low
+      above (pos 102) 99 _ _ fit.certifies.distance_high low.low

@@ -132,20 +132,28 @@ factor_above z e f g a b k low high of_e of_f of_g of_a of_b of_k =
     le_on (10 ^ 30) (between (pos 99998) 100000 (pos 3) 1 ∷ million ∷ million ∷ million ∷ between (negsuc 1) 1 (pos 2) 1 ∷ between (negsuc 1) 1 (pos 2) 1 ∷ between (negsuc 1) 1 (pos 2) 1 ∷ [])
     (z ∷ e ∷ f ∷ g ∷ a ∷ b ∷ k ∷ []) (inside (pos 99998) 100000 (pos 3) 1 low high, (of_e, (of_f, (of_g, (of_a, (of_b, (of_k, tt))))))) (search reads depth 200) tt
 
+factor_below : (z e f g a b k : ℚ) → ratio (pos 99998) 100000 ≤ℚ z → z ≤ℚ ratio (pos 205) 100 → Inside million e → Inside million f → Inside million g → Inside (between (negsuc 1) 1 (pos 2) 1) a → Inside (between (negsuc 1) 1 (pos 2) 1) b →
+    Inside (between (negsuc 1) 1 (pos 2) 1) k → z *ℚ (one_ℚ +ℚ e) +ℚ f *ℚ (k *ℚ k *ℚ (a *ℚ a) +ℚ b *ℚ b) +ℚ g *ℚ (a *ℚ a) ≤ℚ ratio (pos 21) 10
+factor_below z e f g a b k low high of_e of_f of_g of_a of_b of_k =
+    le_on (10 ^ 30) (between (pos 99998) 100000 (pos 205) 100 ∷ million ∷ million ∷ million ∷ between (negsuc 1) 1 (pos 2) 1 ∷ between (negsuc 1) 1 (pos 2) 1 ∷ between (negsuc 1) 1 (pos 2) 1 ∷ [])
+    (z ∷ e ∷ f ∷ g ∷ a ∷ b ∷ k ∷ []) (inside (pos 99998) 100000 (pos 205) 100 low high, (of_e, (of_f, (of_g, (of_a, (of_b, (of_k, tt))))))) (search reads depth 200) tt
+
 near_one : (n : ℚ) → IsNear (part 58) n one_ℚ → Inside million (n -ℚ one_ℚ)
 near_one n h = near_million n one_ℚ (part 58) (le_by [] (known (2 ^ 58 - 1000000) (2 ^ 58 * 1000000)) (search reads depth 90) tt) h
 
 abbrev factor_of : ℚ → ℚ → ℚ → ℚ → ℚ → ℚ → ℚ
 factor_of s c v k a b = a *ℚ a +ℚ b *ℚ b +ℚ (s *ℚ s +ℚ c *ℚ c -ℚ one_ℚ) *ℚ (k *ℚ k *ℚ (a *ℚ a) +ℚ b *ℚ b) +ℚ (v *ℚ v +ℚ k *ℚ k -ℚ one_ℚ) *ℚ (a *ℚ a)
 
-pub length_above : (m s c v k u w t d a b x y z : ℚ) → ratio (pos 1034) 1000 ≤ℚ m → ratio (pos 99998) 100000 ≤ℚ u *ℚ u +ℚ w *ℚ w → Inside (between (negsuc 100) 100 (pos 101) 100) u → Inside (between (negsuc 100) 100 (pos 101) 100) w →
+pub length_within : (m s c v k u w t d a b x y z : ℚ) → ratio (pos 1034) 1000 ≤ℚ m → m ≤ℚ ratio (pos 24) 10 → ratio (pos 99998) 100000 ≤ℚ u *ℚ u +ℚ w *ℚ w → Inside (between (negsuc 100) 100 (pos 101) 100) u → Inside (between (negsuc 100) 100 (pos 101) 100) w →
     IsNear (part 58) (s *ℚ s +ℚ c *ℚ c) one_ℚ → IsNear (part 58) (v *ℚ v +ℚ k *ℚ k) one_ℚ → IsNear (part 58) (t *ℚ t +ℚ d *ℚ d) one_ℚ →
     Inside (between (negsuc 100000) 100000 (pos 100001) 100000) k → Inside (between (negsuc 2) 1000 (pos 3) 1000) t → Inside (between (negsuc 100000) 100000 (pos 100001) 100000) d →
     a ≡ u *ℚ d +ℚ w *ℚ t → b ≡ w *ℚ d -ℚ u *ℚ t → x ≡ m *ℚ (neg_ℚ s *ℚ k *ℚ a +ℚ c *ℚ b) → y ≡ m *ℚ (c *ℚ k *ℚ a +ℚ s *ℚ b) → z ≡ m *ℚ v *ℚ a →
-    ratio (pos 1069) 1000 ≤ℚ x *ℚ x +ℚ y *ℚ y +ℚ z *ℚ z
-length_above m s c v k u w t d a b x y z far sum of_u of_w node tilt turn of_k of_t of_d a_is b_is x_is y_is z_is =
-    rw (x_is, y_is, z_is, length_is m s c v k a b)
-    (le_by (m ∷ factor_of s c v k a b ∷ []) (gap whole ⊗ (square m) ⊕ known 9999 10000 ⊗ gap far ⊗ (gap far ⊕ known 2068 1000) ⊕ known 122711 2500000000) (search reads depth 120) tt)
+    (ratio (pos 1069) 1000 ≤ℚ x *ℚ x +ℚ y *ℚ y +ℚ z *ℚ z) × (x *ℚ x +ℚ y *ℚ y +ℚ z *ℚ z ≤ℚ ratio (pos 121) 10)
+length_within m s c v k u w t d a b x y z far near sum of_u of_w node tilt turn of_k of_t of_d a_is b_is x_is y_is z_is =
+    rw (x_is, y_is, z_is, length_is m s c v k a b) (
+      le_by (m ∷ factor_of s c v k a b ∷ []) (gap whole ⊗ (square m) ⊕ known 9999 10000 ⊗ gap far ⊗ (gap far ⊕ known 2068 1000) ⊕ known 122711 2500000000) (search reads depth 120) tt,
+      le_by (m ∷ factor_of s c v k a b ∷ []) ((gap whole ⊕ known 9999 10000) ⊗ (gap near ⊗ (gap far ⊕ known 3434 1000)) ⊕ known 576 100 ⊗ gap part_most ⊕ known 4 1000) (search reads depth 120) tt,
+    )
   where
     of_a : Inside (between (negsuc 1) 1 (pos 2) 1) a
     of_a = rw a_is (inside (negsuc 1) 1 (pos 2) 1
@@ -165,6 +173,12 @@ length_above m s c v k u w t d a b x y z far sum of_u of_w node tilt turn of_k o
 
     latitude_is : a *ℚ a +ℚ b *ℚ b ≡ (u *ℚ u +ℚ w *ℚ w) *ℚ (one_ℚ +ℚ (t *ℚ t +ℚ d *ℚ d -ℚ one_ℚ))
     latitude_is = rw (a_is, b_is) (turned_is u w t d ∙ ring (u ∷ w ∷ t ∷ d ∷ []) (search reads depth 200) tt)
+
+    modest : u *ℚ u +ℚ w *ℚ w ≤ℚ ratio (pos 205) 100
+    modest = le_on (10 ^ 30) (between (negsuc 100) 100 (pos 101) 100 ∷ between (negsuc 100) 100 (pos 101) 100 ∷ []) (u ∷ w ∷ []) (of_u, (of_w, tt)) (search reads depth 90) tt
+
+    part_most : factor_of s c v k a b ≤ℚ ratio (pos 21) 10
+    part_most = rw latitude_is (factor_below (u *ℚ u +ℚ w *ℚ w) (t *ℚ t +ℚ d *ℚ d -ℚ one_ℚ) (s *ℚ s +ℚ c *ℚ c -ℚ one_ℚ) (v *ℚ v +ℚ k *ℚ k -ℚ one_ℚ) a b k sum modest (near_one _ turn) (near_one _ node) (near_one _ tilt) of_a of_b wide)
 
     whole : ratio (pos 9999) 10000 ≤ℚ factor_of s c v k a b
     whole = rw latitude_is (factor_above (u *ℚ u +ℚ w *ℚ w) (t *ℚ t +ℚ d *ℚ d -ℚ one_ℚ) (s *ℚ s +ℚ c *ℚ c -ℚ one_ℚ) (v *ℚ v +ℚ k *ℚ k -ℚ one_ℚ) a b k sum most (near_one _ turn) (near_one _ node) (near_one _ tilt) of_a of_b wide)

@@ -7,11 +7,15 @@ mod FoundLemmas
 mod GuardLemmas
 mod LatitudeLemmas
 mod LiftLemmas
+mod LitLemmas
 mod MomentLemmas
 mod NearOrbitLemmas
 mod OrbitLemmas
 mod OverLemmas
 mod PeriodicLemmas
+mod SceneLemmas
+mod SideLemmas
 mod SolutionLemmas
+mod SomePi
 mod TakenBoxesLemmas
 mod WidthLemmas

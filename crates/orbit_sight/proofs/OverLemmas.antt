@@ -1,5 +1,5 @@
 -- The time over a cell from the epoch of a set, enclosed; and what holds of a least cell.
-use Rattle.std.proofs.Common.{◌≡◌, arith, Bool, T, [], ◌∷◌, ◌*◌, ◌≤◌, ℕ, ℤ, pos, negsuc, subst, sym}
+use Rattle.std.proofs.Common.{◌≡◌, ◌∙◌, ap, arith, Bool, T, [], ◌∷◌, ◌*◌, ◌≤◌, ℕ, ℤ, pos, negsuc, subst, sym}
 use Rattle.std.proofs.lemmas.Int.{ints}
 use Rattle.exact.specs.Rational.{ℚ, of_int, ratio, ◌+ℚ◌, ◌-ℚ◌, ◌*ℚ◌, ◌≤ℚ◌}
 use Rattle.exact.proofs.Integers.{of_int_add, of_int_is, of_int_le, of_int_mul}
@@ -25,7 +25,7 @@ use Rattle.sgp4_shape.specs.Covering.{unit_minutes}
 use Rattle.orbit_sight.specs.Box.{OrbitBox}
 use Rattle.orbit_sight.specs.Cell.{time_of_place}
 use Rattle.orbit_sight.specs.Moment.{units_from}
-use Rattle.orbit_sight.specs.Over.{IsFarOut, IsSpreadVector}
+use Rattle.orbit_sight.specs.Over.{IsFarOut, IsSpreadVector, cell_of, instant_on, place_on}
 use Rattle.orbit_sight.specs.Craft.{IsCraft}
 use Rattle.sgp4_model.specs.MeanElements.{IsMeanUnguarded}
 use Rattle.sgp4_model.specs.PositionAt.{IsPositionAt}
@@ -33,7 +33,8 @@ use Rattle.elements.specs.Elements.{ElementsRecord, record_of_elements}
 use Rattle.enc_plain.specs.declared.plain.Plain.{Plain}
 use Rattle.enc_plain.proofs.PlainHeld.{middle}
 use Rattle.sgp4_shape.specs.declared.consts.Consts.{Consts}
-use Rattle.orbit_sight.proofs.DistanceLemmas.{position_above}
+use Rattle.orbit_sight.proofs.CellLemmas.{at_start, line_starts}
+use Rattle.orbit_sight.proofs.DistanceLemmas.{position_within}
 use Rattle.orbit_sight.proofs.NearOrbitLemmas.{ends}
 use Rattle.orbit_sight.specs.TakenBoxes.{cell_box, instant_box}
 use Rattle.orbit_sight.proofs.GuardLemmas.{box_position}
@@ -53,6 +54,13 @@ pub tick_units : (epoch start : ℤ) (tick : ℕ) → units_from epoch start +�
 tick_units epoch start tick =
     rw (in_units_of_time epoch start, in_units_of_time epoch (tick_instant start tick), of_int_add start (pos (tick * 100000)), of_int_mul (pos tick) (pos 100000), of_int_is (pos 100000))
     (ring (of_int start ∷ of_int epoch ∷ of_int (pos tick) ∷ []) (search reads depth 90) tt)
+
+-- the minutes from the epoch at the first tick of a cell
+pub minutes_at_start : (set : SetRecord) (start : ℤ) (from to : ℕ) → unit_minutes 1 *ℚ units_from set.epoch (tick_instant start from) ≡ minutes_since_epoch set (instant_on (cell_of start from to) at_start)
+minutes_at_start set start from to =
+    ap (λ z. unit_minutes 1 *ℚ z) (sym (tick_units set.epoch start from))
+    ∙ ap (λ z. unit_minutes 1 *ℚ (units_from set.epoch start +ℚ time_of_place z)) (sym (line_starts (of_int (pos from)) (of_int (pos to))))
+    ∙ minutes_over set start (place_on (cell_of start from to) at_start)
 
 -- the part of a window before a tick is at most ten days long
 part_inside : (tick : ℕ) → tick ≤ most_ticks → Inside (between (pos 0) 1 (pos 1) 1) (time_of_place (of_int (pos tick)))
@@ -113,4 +121,5 @@ far_out set consts start place r craft week p =
     let s = p.mean_is.secular in
     let mean = subst (λ z. IsMeanUnguarded p.constants z s p.pi p.mean) (sym (minutes_over (record_of_elements set) start place)) p.mean_is.unguarded in
     let orbit = near_orbit (record_of_elements set) p.pi (units_from set.epoch start +ℚ time_of_place place) p.constants p.mean s consts p.pi_is craft.near_earth p.constants_are (craft.held middle p.pi p.constants p.pi_is p.constants_are) week mean in
-    record { square = position_above p.constants p.mean p.position_is.periodic s.tempa p.pi p.root r p.pi_is orbit p.position_is.unguarded }
+    let within = position_within p.constants p.mean p.position_is.periodic s.tempa p.pi p.root r p.pi_is orbit p.position_is.unguarded in
+    record { square = within.0; most = within.1 }

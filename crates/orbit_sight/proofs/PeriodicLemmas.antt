@@ -132,6 +132,19 @@ change_small k2 c u w h i j l = record {
   below = le_on (10 ^ 30) (between (pos 0) 1 (pos 62) 100000 ∷ turn ∷ latitude ∷ latitude ∷ []) (k2 ∷ c ∷ u ∷ w ∷ []) (h, (i, (j, (l, tt)))) (search reads depth 90) tt;
 }
 
+-- it is at most 2.4 where r is at most 2.33
+pub corrected_below : (r k1 k2 b con41 c u : ℚ) → Inside (between (pos 1038) 1000 (pos 2330) 1000) r → Inside (between (pos 0) 1 (pos 58) 100000) k1 → Inside (between (pos 0) 1 (pos 62) 100000) k2 → Inside (between (pos 0) 1 (pos 105) 100) b →
+    Inside (between (negsuc 1000) 1000 (pos 2001) 1000) con41 → Inside turn c → Inside latitude u →
+    r *ℚ (one_ℚ -ℚ decimal 15 1 *ℚ k2 *ℚ b *ℚ con41) +ℚ decimal 5 1 *ℚ k1 *ℚ (one_ℚ -ℚ c ^ℚ 2) *ℚ (one_ℚ -ℚ whole 2 *ℚ u ^ℚ 2) ≤ℚ ratio (pos 24) 10
+corrected_below r k1 k2 b con41 c u h i j l m n o =
+    le_on (10 ^ 30)
+    (between (pos 1038) 1000 (pos 2330) 1000 ∷ between (pos 0) 1 (pos 58) 100000 ∷ between (pos 0) 1 (pos 62) 100000 ∷ between (pos 0) 1 (pos 105) 100 ∷ between (negsuc 1000) 1000 (pos 2001) 1000 ∷ turn ∷ latitude ∷ [])
+    (r ∷ k1 ∷ k2 ∷ b ∷ con41 ∷ c ∷ u ∷ []) (h, (i, (j, (l, (m, (n, (o, tt))))))) (search reads depth 90) tt
+
+-- the axis of the mean elements and the inner product leave a distance of at most 2.33
+pub distance_most : (a p : ℚ) → Inside axis a → Inside small_product p → a *ℚ (one_ℚ -ℚ p) ≤ℚ ratio (pos 2330) 1000
+distance_most a p i j = le_on (10 ^ 30) (axis ∷ small_product ∷ []) (a ∷ p ∷ []) (i, (j, tt)) (search reads depth 90) tt
+
 -- the distance: r before, the factors k1 and k2, the square root b, the cosine c of the inclination, and u as that sine
 pub corrected_above : (r k1 k2 b con41 c u : ℚ) → Inside distance r → Inside (between (pos 0) 1 (pos 58) 100000) k1 → Inside (between (pos 0) 1 (pos 62) 100000) k2 → Inside (between (pos 0) 1 (pos 105) 100) b →
     Inside (between (negsuc 1000) 1000 (pos 2001) 1000) con41 → Inside turn c → Inside latitude u →

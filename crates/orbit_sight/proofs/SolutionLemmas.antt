@@ -1,5 +1,5 @@
--- A set that is taken has a position at each instant within seven days of its epoch.
-use Rattle.std.proofs.Common.{◌≡◌, subst, true, [], ◌∷◌, ◌*◌, ◌^◌, ◌-◌, ℤ, pos, negsuc, ◌-ℤ◌}
+-- A set that is taken has a position at each time within seven days of its epoch. The time is in units of 16,384 minutes from there.
+use Rattle.std.proofs.Common.{◌≡◌, subst, true, [], ◌∷◌, ◌*◌, ◌^◌, ◌-◌, pos, negsuc}
 use Rattle.exact.specs.Rational.{ℚ, abs_ℚ, inverse, ratio, one_ℚ, zero_ℚ, ◌+ℚ◌, ◌-ℚ◌, ◌*ℚ◌, ◌/ℚ◌, ◌^ℚ◌, ◌≤ℚ◌, ◌<ℚ◌}
 use Rattle.exact.proofs.Bounds.{abs_le}
 use Rattle.exact.proofs.Intervals.{Inside, between, inside, le_on}
@@ -24,15 +24,13 @@ use Rattle.sgp4_model.specs.Vector.{Vector}
 use Rattle.sgp4_model.proofs.MeanExists.{mean_elements_exist}
 use Rattle.sgp4_model.proofs.PositionExists.{position_exists}
 use Rattle.sgp4_model.proofs.Pythagoras.{sine_pairs_are_bounded}
-use Rattle.sgp4_motion.specs.Fate.{IsAway}
 use Rattle.sgp4_shape.specs.Covering.{unit_minutes}
 use Rattle.sgp4_shape.specs.HeldConsts.{IsHeldConsts}
 use Rattle.sgp4_shape.specs.declared.consts.Consts.{Consts}
 use Rattle.orbit_sight.specs.Craft.{IsCraft, plain_covers, plain_extent}
-use Rattle.orbit_sight.specs.Moment.{units_from}
-use Rattle.orbit_sight.proofs.DayLemmas.{some_pi}
+use Rattle.orbit_sight.proofs.SomePi.{some_pi}
 use Rattle.orbit_sight.proofs.DistanceLemmas.{IsNearOrbit, distance_above, position_in_box}
-use Rattle.orbit_sight.proofs.OrbitLemmas.{axis_above, bend_small, eccentricity_guarded, near_orbit, week_inside}
+use Rattle.orbit_sight.proofs.OrbitLemmas.{WeekInside, axis_above, bend_small, eccentricity_guarded, near_orbit}
 
 -- ---- the eccentricity vector
 abbrev pub divisor : MeanRecord → ℚ
@@ -122,6 +120,13 @@ module _ (k : ConstRecord) (m : MeanRecord) (f pi : ℚ) (is_pi : IsPi pi) (orbi
       (le_on (10 ^ 30) (between (pos 10470) 10000 (pos 19214) 10000 ∷ between (pos 998) 1000 (pos 1002) 1000 ∷ []) (k.a ∷ f ∷ [])
       (inside (pos 10470) 10000 (pos 19214) 10000 axis orbit.axis, (inside (pos 998) 1000 (pos 1002) 1000 orbit.factor_low orbit.factor_high, tt)) (search reads depth 90) tt))
 
+  -- and at least 1
+  pub axis_at_least_1 : one_ℚ ≤ℚ m.am
+  axis_at_least_1 =
+      rw orbit.am_is
+      (le_on (10 ^ 30) (between (pos 10470) 10000 (pos 19214) 10000 ∷ between (pos 998) 1000 (pos 1002) 1000 ∷ []) (k.a ∷ f ∷ [])
+      (inside (pos 10470) 10000 (pos 19214) 10000 axis orbit.axis, (inside (pos 998) 1000 (pos 1002) 1000 orbit.factor_low orbit.factor_high, tt)) (search reads depth 90) tt)
+
   pub guards : (turn : Pair) (ax ay : ℚ) → IsSinCos pi m.wm turn.sine turn.cosine → ax ≡ m.em *ℚ turn.cosine → ay ≡ m.em *ℚ turn.sine +ℚ one_ℚ /ℚ divisor m *ℚ k.aycof →
       (abs_ℚ ax +ℚ abs_ℚ ay ≤ℚ one_ℚ -ℚ part 48) × (zero_ℚ <ℚ m.am *ℚ (one_ℚ -ℚ (ax ^ℚ 2 +ℚ ay ^ℚ 2)))
   guards turn ax ay pair ax_is ay_is =
@@ -131,14 +136,15 @@ module _ (k : ConstRecord) (m : MeanRecord) (f pi : ℚ) (is_pi : IsPi pi) (orbi
       )
 
 -- ---- the solution, with what is known on the way
-pub record Solution (set : ElementsRecord) (at : ℤ) (consts : Consts Plain) : Type 0 where
+pub record Solution (set : ElementsRecord) (x : ℚ) (consts : Consts Plain) : Type 0 where
   pub constants : ConstRecord
   pub constants_are : IsConsts (record_of_elements set) least_pi constants
   pub held : IsHeldConsts plain_covers plain_extent true consts middle constants reach_consts
   pub secular : SecularRecord
   pub mean : MeanRecord
-  pub mean_is : IsMeanUnguarded constants (unit_minutes 1 *ℚ units_from set.epoch at) secular least_pi mean
+  pub mean_is : IsMeanUnguarded constants (unit_minutes 1 *ℚ x) secular least_pi mean
   pub eccentricity : IsEccentricityGuarded secular.ecc
+  pub axis : one_ℚ ≤ℚ mean.am
   pub divides : IsDivisor (divisor mean)
   pub root : ℚ
   pub periodic : PeriodicRecord
@@ -148,10 +154,8 @@ pub record Solution (set : ElementsRecord) (at : ℤ) (consts : Consts Plain) : 
   pub far : ratio (pos 1034) 1000 ≤ℚ periodic.mrt
   pub in_box : IsInBox periodic taken_position
 
-pub solution : (set : ElementsRecord) (at : ℤ) (consts : Consts Plain) → IsElements set → IsCraft set consts → (¬ IsAway (record_of_elements set) at) → Solution set at consts
-solution set at consts elements craft near =
-    let x = units_from set.epoch at in
-    let week = week_inside (at -ℤ set.epoch) near in
+pub solution : (set : ElementsRecord) (x : ℚ) (consts : Consts Plain) → IsElements set → IsCraft set consts → WeekInside x → Solution set x consts
+solution set x consts elements craft week =
     let constants = constants_exist set least_pi elements some_pi craft.ordinary craft.limits craft.near_earth in
     let k = constants.0 in
     let held = craft.held middle least_pi k some_pi constants.1 in
@@ -170,6 +174,7 @@ solution set at consts elements craft near =
       mean = m;
       mean_is = found.1.1;
       eccentricity = eccentricity_guarded (record_of_elements set) least_pi x k m s consts some_pi craft.near_earth constants.1 held week found.1.1;
+      axis = axis_at_least_1 k m s.tempa least_pi some_pi orbit axis;
       divides = parted;
       root = placed.0;
       periodic = placed.1.0;

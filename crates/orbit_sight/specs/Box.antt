@@ -58,17 +58,20 @@ pub record IsClosedPosition (k : ConstReach) (b : OrbitBox) : Type 0 where
   pub z : Reaches (reach_place k b.mean b.position).z b.coordinate
 
 -- the numerals say something, and bounds as wide as they say certify the guards: the eccentricity from -0.001 to 1/2, the
--- components of its vector at most 60000000000000 units in size, the semilatus rectum at least 1/2, the distance at least 1
+-- semimajor axis at least 1, the components of the eccentricity vector at most 60000000000000 units in size, the semilatus rectum
+-- at least 1/2, the distance at least 1.02
 pub record IsCertifying (b : OrbitBox) : Type 0 where
   pub eccentricity_ok : T b.eccentricity.ok
   pub eccentricity_low : T (coef_le (record { num = negsuc 0; under = 999 }) (outer b.eccentricity).low)
   pub eccentricity_high : T (coef_le (outer b.eccentricity).high (record { num = pos 1; under = 1 }))
+  pub axis_ok : T b.mean.am.ok
+  pub axis_high : T (coef_le (record { num = pos 1; under = 0 }) (outer b.mean.am).low)
   pub component_ok : T b.component.ok
   pub component_small : outer_size b.component ≤ 60000000000000
   pub rectum_ok : T b.rectum.ok
   pub rectum_high : T (coef_le (record { num = pos 1; under = 1 }) (outer b.rectum).low)
   pub distance_ok : T b.distance.ok
-  pub distance_high : T (coef_le (record { num = pos 1; under = 0 }) (outer (far_distance b)).low)
+  pub distance_high : T (coef_le (record { num = pos 102; under = 99 }) (outer (far_distance b)).low)
   pub coordinate_ok : T b.coordinate.ok
 
 -- all of this, for constants with these numerals

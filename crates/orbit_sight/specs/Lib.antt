@@ -1,7 +1,10 @@
 pub mod Box
 pub mod Cell
 pub mod Craft
-pub mod DayReach
+pub mod Daylight
+pub mod Lit
 pub mod Moment
 pub mod Over
+pub mod Pairs
+pub mod Scene
 pub mod TakenBoxes

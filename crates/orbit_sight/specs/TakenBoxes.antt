@@ -4,6 +4,7 @@ use Rattle.exact.proofs.Intervals.{between}
 use Rattle.exact.proofs.RationalRing.{Coef}
 use Rattle.fixed_iv.specs.Reach.{from_to}
 use Rattle.sgp4_periodic.specs.Box.{PositionBox}
+use Rattle.sgp4_periodic.specs.Covered.{PositionReach}
 use Rattle.sgp4_shape.specs.Expected.{DragBox}
 use Rattle.orbit_sight.specs.Box.{OrbitBox}
 
@@ -70,3 +71,7 @@ cell_box = record {
   distance = from_to (pos 8) (pos 24) 10 52800000;
   coordinate = from_to (negsuc 4) (pos 5) 1 cell_spread;
 }
+
+-- numerals of a position over it
+abbrev pub cell_position : PositionReach
+cell_position = record { x = cell_box.coordinate; y = cell_box.coordinate; z = cell_box.coordinate }

@@ -1,16 +1,9 @@
 //! A satellite, ready to be placed.
-ghost use Rattle.std.specs.Prelude.{◌≡◌, ◌+◌, ◌<◌, ◌≤◌, IfOk, IfErr, IfSome, IfNone, Err, MatchOption, T, pos};
+ghost use Rattle.std.specs.Prelude.{◌≡◌, ◌+◌, ◌<◌, ◌≤◌, IfOk, IfErr, IfSome, IfNone, Err, MatchOption, T};
 ghost use Rattle.elements.specs.Elements.{record_of_elements};
-ghost use Rattle.elements.specs.Window.{tick_instant};
-ghost use Rattle.exact.specs.Rational.{of_int};
-ghost use Rattle.fixed_iv.specs.Place.{Place, on_line};
-ghost use Rattle.orbit_sight.specs.Over.{IsFarOut, IsSpreadVector};
-ghost use Rattle.orbit_sight.specs.TakenBoxes.{cell_spread};
+ghost use Rattle.orbit_sight.specs.Over.{CoversEachPosition, EachPlaceHasAPosition, EachPositionIsFarOut, IsNearOver, IsLeastPosition, cell_of};
 ghost use Rattle.sgp4_model.specs.PositionAt.{IsPositionAt};
-ghost use Rattle.sgp4_model.specs.Time.{instant_of_place};
 ghost use Rattle.sgp4_model.specs.Vector.{Vector};
-ghost use Rattle.sgp4_motion.specs.Fate.{IsFar};
-ghost use Rattle.sgp4_periodic.specs.Covered.{CoversPosition};
 
 use crate::bounded::bounded;
 use crate::moment::time_from;
@@ -43,16 +36,16 @@ impl Model for Craft {
 }
 
 impl Craft {
-    ghost use Rattle.sgp4_motion.specs.Fate.{IsBetweenLimits};
-    ghost use Rattle.orbit_sight.specs.Craft.{HoldsVector, IsBoundedVector, IsNarrowVector};
+    ghost use Rattle.orbit_sight.specs.Craft.{EncloseConsts, HoldConsts, HoldsEachPosition, IsBoundedVector, IsNarrowVector};
     ghost use Rattle.sgp4_model.specs.Time.{instant_of_nanos};
-    ghost use Rattle.sgp4_motion.specs.Fate.{IsAway, IsNearEarth, IsOrdinary, IsRefusedExactly, MayRefuseSet};
+    ghost use Rattle.sgp4_motion.specs.Fate.{IsAway, IsBetweenLimits, IsNearEarth, IsOfOneForm, IsOrdinary, IsRefusedExactly, MayRefuseSet};
 
     /// The satellite of an element set, or why the set is refused.
     pub fn make(set: &Elements) -> Result<Craft, SatFault>
         ensures made { IfOk result (λ craft. craft ≡ set.now) }
         ensures accepted { IfOk result (λ _. IsOrdinary (record_of_elements set.now) × IsNearEarth (record_of_elements set.now)) }
         ensures between { IfOk result (λ _. IsBetweenLimits (record_of_elements set.now)) }
+        ensures of_one_form { IfOk result (λ _. IsOfOneForm (record_of_elements set.now)) }
         ensures exact { IsRefusedExactly (record_of_elements set.now) (λ fault. result ≡ Err fault) }
         ensures refused { IfErr result (MayRefuseSet (record_of_elements set.now)) }
     {
@@ -62,10 +55,25 @@ impl Craft {
         }
     }
 
+    /// Its element set.
+    pub fn set(&self) -> &Elements
+        ensures { result.now ≡ self.now }
+    {
+        &self.set
+    }
+
+    /// The constants of its orbit: each record of constants of the set is enclosed, as narrowly as an accepted set's numerals say.
+    pub fn consts(&self) -> &Consts<Plain>
+        ensures enclosed { EncloseConsts self.now result.now }
+        ensures held { HoldConsts self.now result.now }
+    {
+        &self.consts
+    }
+
     /// Bounds of the position at an instant, in Earth radii, in the frame of the true equator and mean equinox (TEME). None
     /// only where the instant is more than seven days from the epoch.
     pub fn bounds_at(&self, at: Instant) -> Option<Vec3<Iv>>
-        ensures holds { IfSome result (λ v. (r : Vector) → IsPositionAt (record_of_elements self.now) (instant_of_nanos at) r → HoldsVector v r) }
+        ensures holds { IfSome result (HoldsEachPosition (record_of_elements self.now) (instant_of_nanos at)) }
         ensures bounded { IfSome result IsBoundedVector }
         ensures narrow { IfSome result (λ v. (¬ IsAway (record_of_elements self.now) at) → IsNarrowVector 439804651 v) }
         ensures exists { (¬ IsAway (record_of_elements self.now) at) → (r : Vector) × IsPositionAt (record_of_elements self.now) (instant_of_nanos at) r }
@@ -85,15 +93,17 @@ impl Craft {
 }
 
 /// The position of a satellite over the closed cell from one tick of a window to another, in Earth radii, in the frame of the
-/// true equator and mean equinox (TEME): at each place of the cell, from -1 at its first tick to 1 at its last, each position of
-/// the set at that instant, which is far out. An enclosure that tells its spread has an answer on each least cell, and is narrow there.
+/// true equator and mean equinox (TEME): at each place of the cell, from -1 at its first tick to 1 at its last, there is a position
+/// of the set at that instant, and each one is covered and far out. An enclosure that tells its spread has an answer on each least
+/// cell, and is narrow there.
 pub fn over<E: Enc>(craft: &Craft, window: &Window, from: u64, to: u64) -> Option<Vec3<E>>
-    requires not_far { ¬ IsFar (record_of_elements craft.now) window.now.start (tick_instant window.now.start window.now.ticks) }
+    requires not_far { IsNearOver (record_of_elements craft.now) window.now.start window.now.ticks }
     requires not_empty { from < to }
     requires inside { to ≤ window.now.ticks }
-    ensures covers { IfSome result (λ position. (h : Place) (r : Vector) → IsPositionAt (record_of_elements craft.now) (instant_of_place window.now.start (on_line h (of_int (pos from)) (of_int (pos to)))) r → CoversPosition E.covers position h r) }
-    ensures far { (h : Place) (r : Vector) → IsPositionAt (record_of_elements craft.now) (instant_of_place window.now.start (on_line h (of_int (pos from)) (of_int (pos to)))) r → IsFarOut r }
-    ensures least { T E.tells → to ≡ from + 1 → MatchOption result ⊥ (IsSpreadVector cell_spread E.extent) }
+    ensures covers { IfSome result (CoversEachPosition (record_of_elements craft.now) (cell_of window.now.start from to) E.Enc) }
+    ensures exists { EachPlaceHasAPosition (record_of_elements craft.now) (cell_of window.now.start from to) }
+    ensures far { EachPositionIsFarOut (record_of_elements craft.now) (cell_of window.now.start from to) }
+    ensures least { T E.tells → to ≡ from + 1 → MatchOption result ⊥ (IsLeastPosition (record_of_elements craft.now) (cell_of window.now.start from to) E.Enc) }
 {
     position_over(&craft.set, &craft.consts, window.start(), from, to)
 }

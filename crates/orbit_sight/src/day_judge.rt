@@ -1,9 +1,8 @@
 //! The judge of daylight at a place.
-ghost use Rattle.std.specs.Prelude.{◌≡◌, ◌≢◌, ◌+◌, ◌<◌, ◌≤ℤ◌, ◌<ℤ◌, pos};
-ghost use Rattle.decimals.specs.Decimal.{value};
-ghost use Rattle.exact.specs.Rational.{ℚ};
+ghost use Rattle.std.specs.Prelude.{◌≡◌, ◌≢◌, ◌+◌, ◌<◌, ◌≤ℤ◌, ◌<ℤ◌, ◌^◌, pos};
+ghost use Rattle.earth_frame.specs.Offset.{IsOffset};
 ghost use Rattle.fixed_iv.specs.Holds.{Holds};
-ghost use Rattle.sgp4_model.specs.DaySolution.{EveryDaySolution, GrazesHorizon, IsDaylight, IsNight};
+ghost use Rattle.orbit_sight.specs.Daylight.{EachLight, day_of};
 ghost use Rattle.sgp4_model.specs.Time.{Throughout};
 ghost use Rattle.station_view.specs.Spot.{IsNoWider};
 
@@ -14,29 +13,38 @@ use fixed_iv::{Enc, Iv};
 use span_bisect::{Judge, Verdict};
 use station_view::Spot;
 
-/// Judges whether it is light at a place. Yes: the Sun is above the horizon. No: it is below.
+/// Judges whether it is light at a place, where UT1 is `dut1_ms` milliseconds more than UTC. Yes: the Sun is above the
+/// horizon. No: it is below.
 #[derive(Clone, Copy)]
 pub struct DayJudge<'a> {
     spot: &'a Spot,
     window: Window,
+    dut1_ms: i32,
+    pub ghost offset: { IsOffset dut1_ms },
 }
 
 impl<'a> DayJudge<'a> {
     /// The judge of a place over a window.
-    pub fn make(spot: &'a Spot, window: Window) -> DayJudge<'a>
+    pub fn make(spot: &'a Spot, window: Window, dut1_ms: i32) -> DayJudge<'a>
+        requires { IsOffset dut1_ms }
         ensures spot { result.spot.now ≡ spot.now }
         ensures window { result.window ≡ window }
+        ensures dut1_ms { result.dut1_ms ≡ dut1_ms }
     {
-        DayJudge { spot, window }
+        DayJudge {
+            spot,
+            window,
+            dut1_ms,
+        }
     }
 
     /// The sine of the Sun's elevation over the closed least cell that begins at a tick.
     pub fn light_on(&self, tick: u64) -> Iv
         requires { tick < self.now.window.ticks }
-        ensures holds { Throughout tick (tick + 1) (EveryDaySolution (value self.now.spot.now.lat) (value self.now.spot.now.lon) self.now.window.start (Holds result)) }
-        ensures narrow { IsNoWider 281474976710 result }
+        ensures holds { Throughout tick (tick + 1) (EachLight self.now.spot.now self.now.window.start self.now.dut1_ms (Holds result)) }
+        ensures narrow { IsNoWider (2 ^ 25) result }
     {
-        let light: Plain = light_over(self.spot, self.window.start(), tick, tick + 1);
+        let light: Plain = light_over(self.spot, self.window.start(), self.dut1_ms, tick, tick + 1);
         light.bounds()
     }
 }
@@ -44,21 +52,21 @@ impl<'a> DayJudge<'a> {
 impl<'a> Judge for DayJudge<'a> {
     ghost tick_count = { λ j. j.window.ticks };
 
-    ghost yes_at = { λ j. EveryDaySolution (value j.spot.now.lat) (value j.spot.now.lon) j.window.start IsDaylight };
+    ghost yes_at = { λ j. (day_of j.spot.now j.window.start j.dut1_ms j.window.ticks).yes };
 
-    ghost no_at = { λ j. EveryDaySolution (value j.spot.now.lat) (value j.spot.now.lon) j.window.start IsNight };
+    ghost no_at = { λ j. (day_of j.spot.now j.window.start j.dut1_ms j.window.ticks).no };
 
-    ghost grazes_at = { λ j. EveryDaySolution (value j.spot.now.lat) (value j.spot.now.lon) j.window.start GrazesHorizon };
+    ghost grazes_at = { λ j. (day_of j.spot.now j.window.start j.dut1_ms j.window.ticks).grazes };
 
     // Nothing sinks.
-    ghost sinks_at = { λ _ _. ⊥ };
+    ghost sinks_at = { λ j. (day_of j.spot.now j.window.start j.dut1_ms j.window.ticks).sinks };
 
     fn ticks(&self) -> u64 {
         self.window.ticks()
     }
 
     fn judge(&self, from: u64, to: u64) -> Verdict {
-        let light: Plain = light_over(self.spot, self.window.start(), from, to);
+        let light: Plain = light_over(self.spot, self.window.start(), self.dut1_ms, from, to);
         verdict_of(light.bounds())
     }
 }

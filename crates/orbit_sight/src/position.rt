@@ -1,17 +1,10 @@
 //! The position of a satellite over a cell of a window.
-ghost use Rattle.std.specs.Prelude.{◌≡◌, ◌+◌, ◌<◌, ◌≤◌, IfSome, MatchOption, T, pos};
-ghost use Rattle.exact.specs.Rational.{ℚ, of_int};
+ghost use Rattle.std.specs.Prelude.{◌≡◌, ◌+◌, ◌<◌, ◌≤◌, IfSome, MatchOption, T};
 ghost use Rattle.elements.specs.Elements.{record_of_elements};
 ghost use Rattle.elements.specs.Window.{most_ticks, tick_instant};
-ghost use Rattle.fixed_iv.specs.Place.{Place, on_line};
 ghost use Rattle.orbit_sight.specs.Craft.{IsCraft};
-ghost use Rattle.orbit_sight.specs.Over.{IsFarOut, IsSpreadVector};
-ghost use Rattle.orbit_sight.specs.TakenBoxes.{cell_spread};
-ghost use Rattle.sgp4_model.specs.PositionAt.{IsPositionAt};
-ghost use Rattle.sgp4_model.specs.Time.{instant_of_place};
-ghost use Rattle.sgp4_model.specs.Vector.{Vector};
+ghost use Rattle.orbit_sight.specs.Over.{CoversEachPosition, EachPlaceHasAPosition, EachPositionIsFarOut, IsLeastPosition, cell_of};
 ghost use Rattle.sgp4_motion.specs.Fate.{IsAway};
-ghost use Rattle.sgp4_periodic.specs.Covered.{CoversPosition};
 
 use crate::cell::time_over;
 use crate::moment::time_from;
@@ -36,9 +29,10 @@ pub(crate) fn position_over<E: Enc>(
     requires near_start { ¬ IsAway (record_of_elements set.now) start }
     requires near_cell { ¬ IsAway (record_of_elements set.now) (tick_instant start from) }
     requires near_end { ¬ IsAway (record_of_elements set.now) (tick_instant start to) }
-    ensures covers { IfSome result (λ position. (h : Place) (r : Vector) → IsPositionAt (record_of_elements set.now) (instant_of_place start (on_line h (of_int (pos from)) (of_int (pos to)))) r → CoversPosition E.covers position h r) }
-    ensures far { (h : Place) (r : Vector) → IsPositionAt (record_of_elements set.now) (instant_of_place start (on_line h (of_int (pos from)) (of_int (pos to)))) r → IsFarOut r }
-    ensures least { T E.tells → to ≡ from + 1 → MatchOption result ⊥ (IsSpreadVector cell_spread E.extent) }
+    ensures covers { IfSome result (CoversEachPosition (record_of_elements set.now) (cell_of start from to) E.Enc) }
+    ensures exists { EachPlaceHasAPosition (record_of_elements set.now) (cell_of start from to) }
+    ensures far { EachPositionIsFarOut (record_of_elements set.now) (cell_of start from to) }
+    ensures least { T E.tells → to ≡ from + 1 → MatchOption result ⊥ (IsLeastPosition (record_of_elements set.now) (cell_of start from to) E.Enc) }
 {
     let shift = E::constant(time_from(set.epoch(), start));
     let time = shift.plus(time_over(from, to));

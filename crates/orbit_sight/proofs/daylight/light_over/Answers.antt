@@ -1,46 +1,52 @@
 use Rattle.std.proofs.Common.{sym, subst, pos, negsuc}
 use Rattle.exact.specs.Rational.{of_int}
+use Rattle.earth_frame.proofs.OffsetLemmas.{kept_offset}
 use Rattle.fixed_iv.specs.Reach.{from_to, negative, nothing, ◌+ᴿ◌, ◌*ᴿ◌}
 use Rattle.fixed_iv.proofs.Held.{covered, within}
 use Rattle.sgp4_model.specs.Sidereal.{IsSiderealPair}
 use Rattle.sgp4_model.specs.Sun.{IsSun}
 use Rattle.sgp4_model.specs.Time.{instant_of_place}
+use Rattle.sgp4_model.proofs.DayExists.{day_solution_exists}
 use Rattle.sgp4_model.proofs.Pythagoras.{sine_pairs_are_bounded}
+use Rattle.station_view.specs.SpotPairs.{ArePairsOf}
 use Rattle.orbit_sight.proofs.CellLemmas.{instant_is, start_within}
-use Rattle.orbit_sight.proofs.DayLemmas.{some_day_solution, spread_by, sun_held, sun_room, turn_is_held, turn_room}
+use Rattle.orbit_sight.proofs.DayLemmas.{spread_by, sun_held, sun_room, turn_is_held, turn_room}
 use Rattle.orbit_sight.proofs.daylight.light_over.Goals as goal
 
 pub returns-clause-covers : goal.returns-clause-covers
 returns-clause-covers g c place product w s =
     let on = c.time_over-t.ensures.covers place w in
-    let angle = subst (λ t. IsSiderealPair s.pi t s.turn) (instant_is c.args.start place) s.is_sidereal in
+    let kept = kept_offset c.args.dut1_ms c.requires.offset in
+    let angle = subst (λ t. IsSiderealPair s.pi t c.args.dut1_ms s.turn) (instant_is c.args.start place) s.is_sidereal in
     let toward = subst (λ t. IsSun s.pi t s.sun) (instant_is c.args.start place) s.is_sun in
-    let turn = c.sidereal.ensures.covers on.at s.pi _ s.turn s.is_pi on.covered angle in
+    let turn = (rw kept at c.sidereal.ensures.covers) on.at s.pi _ s.turn s.is_pi on.covered angle in
     let sun = c.sun_direction.ensures.covers on.at s.pi _ s.sun s.is_pi on.covered toward in
-    let light = c.daylight.ensures.held on.at s.pi s.of_latitude s.of_longitude s.turn s.sun nothing nothing (record { x = nothing; y = nothing; z = nothing })
-    s.is_pi s.is_latitude s.is_longitude (covered turn.0) (covered turn.1) (record { x = covered sun.x; y = covered sun.y; z = covered sun.z }) in
+    let pairs : ArePairsOf c.args.spot.now s.pi s.of_latitude s.of_longitude = record { is_pi = s.is_pi; is_latitude = s.is_latitude; is_longitude = s.is_longitude } in
+    let light = c.daylight.ensures on.at s.pi s.of_latitude s.of_longitude s.turn s.sun nothing nothing (record { x = nothing; y = nothing; z = nothing })
+    pairs (covered turn.0) (covered turn.1) (record { x = covered sun.x; y = covered sun.y; z = covered sun.z }) in
     record { at = on.at; covered = subst (g.E.Enc.covers c.daylight.result on.at) (sym s.product_is) light.covers }
 
 pub returns-clause-narrow : goal.returns-clause-narrow
 unfolding ◌+ᴿ◌ ◌*ᴿ◌ negative
 returns-clause-narrow g c told least =
     let place = of_int (pos c.args.from) in
-    let some = some_day_solution _ _ (instant_of_place c.args.start place) in
-    let s = some.is in
+    let s = (day_solution_exists _ _ (instant_of_place c.args.start place) c.args.dut1_ms).1 in
     let on = c.time_over-t.ensures.covers place (start_within c.requires.not_empty) in
     let one = c.time_over-t.ensures.within told in
     let spread = c.time_over-t.ensures.narrow told least in
-    let angle = subst (λ t. IsSiderealPair s.pi t s.turn) (instant_is c.args.start place) s.is_sidereal in
+    let kept = kept_offset c.args.dut1_ms c.requires.offset in
+    let angle = subst (λ t. IsSiderealPair s.pi t c.args.dut1_ms s.turn) (instant_is c.args.start place) s.is_sidereal in
     let toward = subst (λ t. IsSun s.pi t s.sun) (instant_is c.args.start place) s.is_sun in
-    let turn = c.sidereal.ensures.covers on.at s.pi _ s.turn s.is_pi on.covered angle in
+    let turn = (rw kept at c.sidereal.ensures.covers) on.at s.pi _ s.turn s.is_pi on.covered angle in
     let sun = c.sun_direction.ensures.covers on.at s.pi _ s.sun s.is_pi on.covered toward in
     let size = sine_pairs_are_bounded _ _ _ _ s.is_pi s.is_sidereal in
-    let sine = turn_is_held 2291264 size.0 turn.0 (λ t. spread_by 80 64 2291264 spread turn_room (c.sidereal.ensures.narrow on.at _ on.covered t one).0) in
-    let cosine = turn_is_held 2291264 size.1 turn.1 (λ t. spread_by 80 64 2291264 spread turn_room (c.sidereal.ensures.narrow on.at _ on.covered t one).1) in
+    let sine = turn_is_held 2291264 size.0 turn.0 (λ t. spread_by 80 64 2291264 spread turn_room (c.sidereal.ensures.narrow_sine on.at _ on.covered t one)) in
+    let cosine = turn_is_held 2291264 size.1 turn.1 (λ t. spread_by 80 64 2291264 spread turn_room (c.sidereal.ensures.narrow_cosine on.at _ on.covered t one)) in
     let rays = sun_held 57536 s.is_pi toward sun
     (λ t. spread_by 2 256 57536 spread sun_room (c.sun_direction.ensures.narrow_x on.at _ on.covered t one))
     (λ t. spread_by 2 256 57536 spread sun_room (c.sun_direction.ensures.narrow_y on.at _ on.covered t one))
     (λ t. spread_by 2 256 57536 spread sun_room (c.sun_direction.ensures.narrow_z on.at _ on.covered t one)) in
-    let light = c.daylight.ensures.held on.at s.pi s.of_latitude s.of_longitude s.turn s.sun _ _ _ s.is_pi s.is_latitude s.is_longitude sine cosine rays in
+    let pairs : ArePairsOf c.args.spot.now s.pi s.of_latitude s.of_longitude = record { is_pi = s.is_pi; is_latitude = s.is_latitude; is_longitude = s.is_longitude } in
+    let light = c.daylight.ensures on.at s.pi s.of_latitude s.of_longitude s.turn s.sun _ _ _ pairs sine cosine rays in
     let known = (within (from_to (negsuc 8) (pos 9) 1 33554432) light tt).known told tt in
     record { measured = known.measured; spread = known.narrow }
