@@ -26,7 +26,7 @@ high_end x high units h k =
 pub between_edges : {v : Iv} {low high : ℤ} (x : ℚ) → IsBounded v → (low *ℤ pos 281474976710656) ≤ℤ (v.lo *ℤ pos 6378135000) → (v.hi *ℤ pos 6378135000) ≤ℤ (high *ℤ pos 281474976710656) → Holds v x → IsBetween low high x
 between_edges {v} {low} {high} x b l h held = record { low_end = low_end x low v.lo l (held.low b.low); high_end = high_end x high v.hi h (held.high b.high) }
 
--- 1,410,000,000 units of 2^-48 Earth radii are less than 31,951 millimetres
+-- 439,804,651 units of 2^-48 Earth radii are less than 9,967 millimetres
 pub narrow_edges : (v : Iv) (low high : ℤ) → width_of v ≤ 439804651 → (v.lo *ℤ pos 6378135000) <ℤ ((low +ℤ pos 1) *ℤ pos 281474976710656) → ((high -ℤ pos 1) *ℤ pos 281474976710656) <ℤ (v.hi *ℤ pos 6378135000) →
     high ≤ℤ (low +ℤ pos 10000)
 narrow_edges v low high w l h = of_ends (width_of v) v.lo v.hi (width_is v) w l h

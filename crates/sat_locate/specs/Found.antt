@@ -4,7 +4,7 @@ use Rattle.exact.specs.Rational.{ℚ}
 use Rattle.catalogue.specs.Entries.{IsName, entry_with, has_number}
 use Rattle.catalogue.specs.declared.entry.Entry.{Entry}
 use Rattle.elements.specs.Elements.{ElementsRecord, record_of_elements}
-use Rattle.pass_text.specs.LocateLayout.{EdgeRecord, FoundRecord, LocateRecord, missing, refused, inside, unplaced}
+use Rattle.pass_text.specs.LocateLayout.{EdgeRecord, FoundRecord, LocateRecord, missing, refused, inside, decayed}
 use Rattle.sgp4_model.specs.PositionAt.{IsPositionAt}
 use Rattle.sgp4_model.specs.Time.{instant_of_nanos}
 use Rattle.sgp4_model.specs.Vector.{Vector}
@@ -13,7 +13,7 @@ use Rattle.sgp4_shape.specs.declared.fault.SatFault.{SatFault}
 use Rattle.sat_locate.specs.Edge.{IsBetween}
 use Rattle.sat_locate.specs.declared.edge.Edge.{Edge}
 use Rattle.sat_locate.specs.declared.found.Found.{Found}
-use Rattle.sat_locate.specs.declared.found.Found.TheVariants.{Missing, Refused, Inside, Unplaced}
+use Rattle.sat_locate.specs.declared.found.Found.TheVariants.{Missing, Refused, Inside, Decayed}
 use Rattle.sat_locate.specs.declared.found.LocAnswer.{LocAnswer}
 
 -- the plain record of an answer
@@ -24,7 +24,7 @@ abbrev pub found_record : Found → FoundRecord
 found_record Missing = missing
 found_record (Refused fault name) = refused fault name
 found_record (Inside name x y z) = inside name (edge_record x) (edge_record y) (edge_record z)
-found_record (Unplaced name) = unplaced name
+found_record (Decayed name) = decayed name
 
 abbrev pub locate_record : LocAnswer → LocateRecord
 locate_record answer = record { at = answer.at; number = answer.number; found = found_record answer.found }
@@ -34,14 +34,14 @@ abbrev pub is_placed : FoundRecord → Bool
 is_placed missing = false
 is_placed (refused fault name) = false
 is_placed (inside name x y z) = true
-is_placed (unplaced name) = false
+is_placed (decayed name) = false
 
 -- the name, where there is one, is that of a catalogue: 1 to 64 printable bytes
 abbrev pub IsWellNamed : FoundRecord → Type 0
 IsWellNamed missing = ⊤
 IsWellNamed (refused fault name) = IsName name
 IsWellNamed (inside name x y z) = IsName name
-IsWellNamed (unplaced name) = IsName name
+IsWellNamed (decayed name) = IsName name
 
 -- a coordinate lies between its bounds
 abbrev pub IsInEdge : EdgeRecord → ℚ → Type 0
@@ -82,7 +82,7 @@ abbrev pub IsFoundFor : ElementsRecord → List ℕ → ℤ → FoundRecord → 
 IsFoundFor set name at missing = ⊥
 IsFoundFor set name at (refused fault given) = (given ≡ name) × IsRefusedAt at fault set
 IsFoundFor set name at (inside given x y z) = (given ≡ name) × IsPlacedAt at x y z set
-IsFoundFor set name at (unplaced given) = ⊥
+IsFoundFor set name at (decayed given) = ⊥
 
 -- What was found of the satellite with a number at an instant: there is none; its set may be refused, for this fault; or it may
 -- be accepted, a position exists and each lies between the bounds. So it is refused as far if and only if the instant is more
@@ -91,7 +91,7 @@ abbrev pub IsFoundOf : List Entry → ℕ → ℤ → FoundRecord → Type 0
 IsFoundOf entries number at missing = has_number number entries ≡ false
 IsFoundOf entries number at (refused fault name) = IsOf entries number name (IsRefusedAt at fault)
 IsFoundOf entries number at (inside name x y z) = IsOf entries number name (IsPlacedAt at x y z)
-IsFoundOf entries number at (unplaced name) = ⊥
+IsFoundOf entries number at (decayed name) = ⊥
 
 -- the answer is for this number and this instant
 pub record IsAnswerFor (entries : List Entry) (number : ℕ) (at : ℤ) (answer : LocateRecord) : Type 0 where

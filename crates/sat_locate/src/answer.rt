@@ -52,7 +52,7 @@ fn found_of(set: &Elements, name: Text, at: Instant) -> Found
                     y: edge_of(bounds.y),
                     z: edge_of(bounds.z),
                 },
-                None => Found::Unplaced { name },
+                None => Found::Decayed { name },
             }
         }
         Err(fault) => Found::Refused { fault, name },

@@ -22,8 +22,8 @@ pub enum Found {
         y: Edge,
         z: Edge,
     },
-    /// No bounds of its position are known.
-    Unplaced {
+    /// It has decayed: some record of its set sinks there, and no bounds of its position are known.
+    Decayed {
         name: Text,
     },
 }
@@ -47,7 +47,7 @@ impl LocAnswer {
             Found::Inside { .. } => true,
             Found::Missing => false,
             Found::Refused { .. } => false,
-            Found::Unplaced { .. } => false,
+            Found::Decayed { .. } => false,
         }
     }
 }

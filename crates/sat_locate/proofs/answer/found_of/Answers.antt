@@ -13,6 +13,7 @@ returns-in-Some-clause-found c =
           ordinary = c.in-Ok.ensures.accepted.0;
           between = c.in-Ok.ensures.between;
           near_earth = c.in-Ok.ensures.accepted.1;
+          of_one_form = c.in-Ok.ensures.of_one_form;
           not_far = λ far. false≢true (c.if-is_far_at.ensures.1 far);
         };
         bounds = record {
