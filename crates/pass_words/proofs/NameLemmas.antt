@@ -1,32 +1,24 @@
 -- The values of options stand in the words.
-use Rattle.std.proofs.Common.{◌≡◌, arith, ℕ, suc, ◌+◌, ◌-◌, ◌<◌, ◌≤◌, ◌⊎◌, inl, inr, Bool, true, false, List, [], ◌∷◌, length, get_or, Option, Some, None, is_none, Result, Ok, Err, cond, refl, ap, sym, subst, ◌∙◌, take}
+use Rattle.std.proofs.Common.{◌≡◌, arith, ℕ, suc, ◌+◌, ◌-◌, ◌<◌, ◌≤◌, ◌⊎◌, inl, inr, Bool, true, false, List, [], ◌∷◌, ◌++◌, length, get_or, Option, Some, None, is_none, Ok, Err, cond, refl, ap, sym, subst, ◌∙◌, take}
 use Rattle.std.proofs.lemmas.Option.{none-some}
 use Rattle.std.proofs.lemmas.Bool.Decides.{nat_tests}
-use Rattle.std.specs.Prelude.{IfOk, ℤ, neg_ℤ, nat_lt, option_map, pos, unwrap_or}
+use Rattle.std.specs.Prelude.{nat_lt, option_map, unwrap_or}
 use Rattle.std.specs.Option.{option_or}
 use Rattle.std.specs.Str.{is_utf8}
-use Rattle.decimals.specs.Decimal.{DecimalRecord}
-use Rattle.elements.specs.Window.{WindowRecord}
 use Rattle.pass_words.specs.declared.fault.UsageFault.{UsageFault}
 use Rattle.pass_words.specs.declared.fault.UsageFault.TheVariants as faults
-use Rattle.pass_words.specs.declared.fault.WordFault.{WordFault}
 use Rattle.pass_words.specs.declared.key.Opt.{Opt}
-use Rattle.pass_words.specs.declared.key.Opt.TheVariants.{At, Catalogue, Lat, Lon, Number, Start}
 use Rattle.pass_words.specs.declared.part.Part.{Part}
-use Rattle.pass_words.specs.declared.request.Request.TheVariants as requests
 use Rattle.pass_words.specs.declared.role.Role.{Role}
 use Rattle.pass_words.specs.declared.role.Role.TheVariants.{Opens, Value, Stray}
-use Rattle.pass_words.specs.Day.{day_request}
 use Rattle.pass_words.specs.Keys.{key_of}
-use Rattle.pass_words.specs.Locate.{locate_request}
-use Rattle.pass_words.specs.Names.{AreNamesIn, IsPartOf}
+use Rattle.pass_words.specs.Names.{IsPartOf}
 use Rattle.pass_words.specs.Options.{first_fault, option_roles, place_of, unless}
 use Rattle.pass_words.specs.Placed.{first_missing, placed}
 use Rattle.pass_words.specs.Places.{Places, is_same}
 use Rattle.pass_words.specs.Roles.{continued, first_sign, first_word, may_be_value, opens, pair, role, roles, text_role, whole, whole_at}
-use Rattle.pass_words.specs.Show.{show_request}
 use Rattle.pass_words.specs.Steps.{◌>>=◌}
-use Rattle.pass_words.specs.Values.{degrees_given, instant_given, number_given, part_given, window_given}
+use Rattle.pass_words.specs.Values.{part_given}
 
 -- the value of an option stands in its word, or in the next
 abbrev Stands : ℕ → List ℕ → List ℕ → Part → Type 0
@@ -128,63 +120,37 @@ of_unless : {A : Type 0} (fault : Option UsageFault) (x y : A) → unless fault 
 of_unless None x y e = (refl, cc)
 of_unless (Some fault) x y e = absurd (let no : Err fault ≡ Ok y = e in cc)
 
--- the first key has a value where none is missing
-first_found : (key : Opt) (keys : List Opt) (places : Places) → first_missing (key ∷ keys) places ≡ None → (part : Part) × (places key ≡ Some part)
-first_found key keys places e = go (places key) refl e
+-- each of the keys has a value where none is missing
+key_found : (earlier : List Opt) (key : Opt) (keys : List Opt) (places : Places) → first_missing (earlier ++ key ∷ keys) places ≡ None → (part : Part) × (places key ≡ Some part)
+key_found [] key keys places e = go (places key) refl e
   where
     go : (o : Option Part) → places key ≡ o → cond (is_none o) (Some key) (first_missing keys places) ≡ None → (part : Part) × (places key ≡ Some part)
     go None is e = absurd (none-some _ (sym e))
     go (Some part) is e = (part, is)
-
--- the value of the first key of a command stands in the words
-pub first_stands : (key : Opt) (keys : List Opt) (words : List (List ℕ)) (places : Places) → placed (key ∷ keys) words ≡ Ok places → IsPartOf words (part_given places key)
-first_stands key keys words places e = go (first_fault [] 2 (option_roles (key ∷ keys) words)) e
+key_found (other ∷ earlier) key keys places e = go (is_none (places other)) e (key_found earlier key keys places)
   where
-    found : Places
-    found = place_of (option_roles (key ∷ keys) words)
+    go : (b : Bool) → cond b (Some other) (first_missing (earlier ++ key ∷ keys) places) ≡ None → (first_missing (earlier ++ key ∷ keys) places ≡ None → (part : Part) × (places key ≡ Some part)) → (part : Part) × (places key ≡ Some part)
+    go true e later = absurd (none-some _ (sym e))
+    go false e later = later e
 
-    missing : (o : Option Opt) → first_missing (key ∷ keys) found ≡ o → unless (option_map faults.Missing o) found ≡ Ok places → IsPartOf words (part_given places key)
+-- the value of each key of a command stands in the words
+pub key_stands : (earlier : List Opt) (key : Opt) (keys : List Opt) (words : List (List ℕ)) (places : Places) → placed (earlier ++ key ∷ keys) words ≡ Ok places → IsPartOf words (part_given places key)
+key_stands earlier key keys words places e = go (first_fault [] 2 (option_roles all words)) e
+  where
+    all : List Opt
+    all = earlier ++ key ∷ keys
+
+    found : Places
+    found = place_of (option_roles all words)
+
+    missing : (o : Option Opt) → first_missing all found ≡ o → unless (option_map faults.Missing o) found ≡ Ok places → IsPartOf words (part_given places key)
     missing (Some other) is e = absurd (let no : Err (faults.Missing other) ≡ Ok places = e in cc)
     missing None is e =
-        let there = first_found key keys found is in
+        let there = key_found earlier key keys found is in
         let same : found ≡ places = (of_unless None found places e).1 in
         let value : places key ≡ Some there.0 = subst (λ (p : Places). p key ≡ Some there.0) same there.1 in
-        rw value (value_stands (key ∷ keys) words key there.0 there.1)
+        rw value (value_stands all words key there.0 there.1)
 
-    go : (fault : Option UsageFault) → unless fault found >>= (λ places. unless (option_map faults.Missing (first_missing (key ∷ keys) places)) places) ≡ Ok places → IsPartOf words (part_given places key)
-    go None e = missing (first_missing (key ∷ keys) found) refl e
+    go : (fault : Option UsageFault) → unless fault found >>= (λ places. unless (option_map faults.Missing (first_missing all places)) places) ≡ Ok places → IsPartOf words (part_given places key)
+    go None e = missing (first_missing all found) refl e
     go (Some fault) e = absurd (let no : Err fault ≡ Ok places = e in cc)
-
--- ---- requests
-pub day_names : (words : List (List ℕ)) (places : Places) → IfOk (day_request words places) (AreNamesIn words)
-day_names words places = at_lat (degrees_given words places Lat (neg_ℤ (pos 90)) (pos 90))
-  where
-    at_window : (lat lon : DecimalRecord) (w : Result WindowRecord WordFault) → IfOk (w >>= (λ window. Ok (requests.Day lat lon window))) (AreNamesIn words)
-    at_window lat lon (Ok window) = tt
-    at_window lat lon (Err fault) = tt
-
-    at_lon : (lat : DecimalRecord) (r : Result DecimalRecord WordFault) → IfOk (r >>= (λ lon. window_given words places >>= (λ window. Ok (requests.Day lat lon window)))) (AreNamesIn words)
-    at_lon lat (Ok lon) = at_window lat lon (window_given words places)
-    at_lon lat (Err fault) = tt
-
-    at_lat : (r : Result DecimalRecord WordFault) → IfOk (r >>= (λ lat. degrees_given words places Lon (neg_ℤ (pos 180)) (pos 360) >>= (λ lon. window_given words places >>= (λ window. Ok (requests.Day lat lon window))))) (AreNamesIn words)
-    at_lat (Ok lat) = at_lon lat (degrees_given words places Lon (neg_ℤ (pos 180)) (pos 360))
-    at_lat (Err fault) = tt
-
-pub show_names : (words : List (List ℕ)) (places : Places) → IsPartOf words (part_given places Catalogue) → IfOk (show_request words places) (AreNamesIn words)
-show_names words places h = go (instant_given words places Start)
-  where
-    go : (r : Result ℤ WordFault) → IfOk (r >>= (λ start. Ok (requests.Show (part_given places Catalogue) start))) (AreNamesIn words)
-    go (Ok start) = h
-    go (Err fault) = tt
-
-pub locate_names : (words : List (List ℕ)) (places : Places) → IsPartOf words (part_given places Catalogue) → IfOk (locate_request words places) (AreNamesIn words)
-locate_names words places h = at_number (number_given words places Number)
-  where
-    at_instant : (number : ℕ) (r : Result ℤ WordFault) → IfOk (r >>= (λ instant. Ok (requests.Locate (part_given places Catalogue) number instant))) (AreNamesIn words)
-    at_instant number (Ok instant) = h
-    at_instant number (Err fault) = tt
-
-    at_number : (r : Result ℕ WordFault) → IfOk (r >>= (λ number. instant_given words places At >>= (λ instant. Ok (requests.Locate (part_given places Catalogue) number instant)))) (AreNamesIn words)
-    at_number (Ok number) = at_instant number (instant_given words places At)
-    at_number (Err fault) = tt

@@ -2,7 +2,7 @@
 use Rattle.std.specs.Prelude.{Result, Ok, Err}
 use Rattle.pass_words.specs.declared.fault.UsageFault.{UsageFault}
 use Rattle.pass_words.specs.declared.found.Found.{Found}
-use Rattle.pass_words.specs.declared.key.Opt.TheVariants.{Lat, Lon, Start, End, Res, Catalogue, Number, At}
+use Rattle.pass_words.specs.declared.key.Opt.TheVariants.{Lat, Lon, Start, End, Res, Catalogue, Stations, Number, At}
 use Rattle.pass_words.specs.Places.{Places}
 
 -- the place of each key's value
@@ -13,6 +13,7 @@ places_in found Start = found.start
 places_in found End = found.end
 places_in found Res = found.res
 places_in found Catalogue = found.catalogue
+places_in found Stations = found.stations
 places_in found Number = found.number
 places_in found At = found.at
 

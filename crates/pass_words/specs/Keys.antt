@@ -2,7 +2,7 @@
 use Rattle.std.specs.Prelude.{ℕ, Bool, List, ◌++◌, codes, Option, find}
 use Rattle.std.specs.Str.{bytes_eq}
 use Rattle.pass_words.specs.declared.key.Opt.{Opt}
-use Rattle.pass_words.specs.declared.key.Opt.TheVariants.{Lat, Lon, Start, End, Res, Catalogue, Number, At}
+use Rattle.pass_words.specs.declared.key.Opt.TheVariants.{Lat, Lon, Start, End, Res, Catalogue, Stations, Number, At}
 
 -- the name of a key
 abbrev pub name_of : Opt → List ℕ
@@ -12,6 +12,7 @@ name_of Start = codes "start"
 name_of End = codes "end"
 name_of Res = codes "res"
 name_of Catalogue = codes "catalogue"
+name_of Stations = codes "stations"
 name_of Number = codes "number"
 name_of At = codes "at"
 

@@ -1,3 +1,4 @@
+pub mod Commands
 pub mod Day
 pub mod Degrees
 pub mod Faults
@@ -9,8 +10,10 @@ pub mod Moment
 pub mod Names
 pub mod Number
 pub mod Options
+pub mod Passes
 pub mod Placed
 pub mod Places
+pub mod Plan
 pub mod Ranges
 pub mod Resolution
 pub mod Roles

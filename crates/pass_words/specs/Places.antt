@@ -1,7 +1,7 @@
 -- Where the values of the keys stand.
 use Rattle.std.specs.Prelude.{Bool, true, false, Option, Some, None, if◌then◌else◌}
 use Rattle.pass_words.specs.declared.key.Opt.{Opt}
-use Rattle.pass_words.specs.declared.key.Opt.TheVariants.{Lat, Lon, Start, End, Res, Catalogue, Number, At}
+use Rattle.pass_words.specs.declared.key.Opt.TheVariants.{Lat, Lon, Start, End, Res, Catalogue, Stations, Number, At}
 use Rattle.pass_words.specs.declared.part.Part.{Part}
 
 -- for each key the place of its value, if there is one
@@ -20,6 +20,7 @@ is_same Start Start = true
 is_same End End = true
 is_same Res Res = true
 is_same Catalogue Catalogue = true
+is_same Stations Stations = true
 is_same Number Number = true
 is_same At At = true
 is_same _ _ = false

@@ -3,7 +3,7 @@ use Rattle.std.specs.Prelude.{◌<◌, ◌^◌, ⊤, pos, neg_ℤ}
 use Rattle.decimals.specs.Decimal.{DecimalRecord, value}
 use Rattle.elements.specs.Elements.{IsFromTo}
 use Rattle.pass_words.specs.declared.request.Request.{Request}
-use Rattle.pass_words.specs.declared.request.Request.TheVariants.{Day, Show, Locate}
+use Rattle.pass_words.specs.declared.request.Request.TheVariants.{Day, Plan, Show, Locate}
 
 -- a latitude is from -90 to 90 degrees, and a longitude from -180 to 360
 pub record IsPlace (lat lon : DecimalRecord) : Type 0 where
@@ -13,5 +13,6 @@ pub record IsPlace (lat lon : DecimalRecord) : Type 0 where
 -- the values of a request are in their ranges
 abbrev pub IsInRange : Request → Type 0
 IsInRange (Day lat lon window) = IsPlace lat lon
+IsInRange (Plan catalogue stations window) = ⊤
 IsInRange (Show catalogue start) = ⊤
 IsInRange (Locate catalogue number instant) = number < 10 ^ 9

@@ -1,98 +1,77 @@
-//! The commands, each with its options.
-ghost use Rattle.std.specs.Prelude.{◌≡◌, Some, IfOk};
-ghost use Rattle.pass_words.specs.Day.{day_request};
-ghost use Rattle.pass_words.specs.Found.{places_in};
-ghost use Rattle.pass_words.specs.Locate.{locate_request};
-ghost use Rattle.pass_words.specs.Names.{AreNamesIn};
-ghost use Rattle.pass_words.specs.Ranges.{IsInRange};
-ghost use Rattle.pass_words.specs.Show.{show_request};
-ghost use Rattle.pass_words.specs.Words.{command_value, day, locate, show};
+//! The commands.
+ghost use Rattle.std.specs.Prelude.{◌≡◌};
+ghost use Rattle.pass_words.specs.Commands.{command_in, command_of, is_named, keys_of, word_of};
 
-use crate::fault::WordFault;
-use crate::found::Found;
 use crate::key::Opt;
-use crate::placed::placed;
-use crate::request::Request;
-use crate::values::{degrees_given, instant_given, number_given, part_given, window_given};
-use elements::Text;
 
-/// The keys of the options of `day`, in their order.
-const DAY: [Opt; 5] = [Opt::Lat, Opt::Lon, Opt::Start, Opt::End, Opt::Res];
-
-/// The keys of the options of `show`, in their order.
-const SHOW: [Opt; 2] = [Opt::Catalogue, Opt::Start];
-
-/// The keys of the options of `locate`, in their order.
-const LOCATE: [Opt; 3] = [Opt::Catalogue, Opt::Number, Opt::At];
-
-/// The request of `day`, of the values of its options.
-fn day_request(words: &[Text], found: &Found) -> Result<Request, WordFault>
-    ensures value { result ≡ day_request words.now (places_in found.now) }
-    ensures ranges { IfOk result IsInRange }
-{
-    let lat = degrees_given(words, found, Opt::Lat, -90, 90)?;
-    let lon = degrees_given(words, found, Opt::Lon, -180, 360)?;
-    let window = window_given(words, found)?;
-    Ok(Request::Day { lat, lon, window })
+/// A command of the program.
+#[derive(Clone, Copy)]
+pub(crate) enum Command {
+    /// Daylight of one place.
+    Day,
+    /// When stations see satellites.
+    Plan,
+    /// The element sets of a file that are nearest to an instant.
+    Show,
+    /// The position of one satellite at an instant.
+    Locate,
 }
 
-/// The request of `show`, of the values of its options.
-fn show_request(words: &[Text], found: &Found) -> Result<Request, WordFault>
-    ensures value { result ≡ show_request words.now (places_in found.now) }
-    ensures ranges { IfOk result IsInRange }
-{
-    let catalogue = part_given(found, Opt::Catalogue);
-    let start = instant_given(words, found, Opt::Start)?;
-    Ok(Request::Show { catalogue, start })
-}
+/// All commands.
+const COMMANDS: [Command; 4] = [Command::Day, Command::Plan, Command::Show, Command::Locate];
 
-/// The request of `locate`, of the values of its options.
-fn locate_request(words: &[Text], found: &Found) -> Result<Request, WordFault>
-    ensures value { result ≡ locate_request words.now (places_in found.now) }
-    ensures ranges { IfOk result IsInRange }
-{
-    let catalogue = part_given(found, Opt::Catalogue);
-    let number = number_given(words, found, Opt::Number)?;
-    let at = instant_given(words, found, Opt::At)?;
-    Ok(Request::Locate {
-        catalogue,
-        number,
-        at,
-    })
-}
+impl Command {
+    /// The word of the command.
+    fn word(self) -> &'static [u8]
+        ensures { result.now ≡ word_of self }
+    {
+        match self {
+            Command::Day => b"day",
+            Command::Plan => b"plan",
+            Command::Show => b"show",
+            Command::Locate => b"locate",
+        }
+    }
 
-/// The request of words whose first is `day`.
-pub(crate) fn day(words: &[Text]) -> Result<Request, WordFault>
-    ensures value { result ≡ command_value (Some day) words.now }
-    ensures ranges { IfOk result IsInRange }
-    ensures names { IfOk result (AreNamesIn words.now) }
-{
-    match placed(&DAY, words) {
-        Ok(found) => day_request(words, &found),
-        Err(fault) => Err(WordFault::Usage(fault)),
+    /// The keys of the options of the command, in their order.
+    pub(crate) fn keys(self) -> &'static [Opt]
+        ensures { result.now ≡ keys_of self }
+    {
+        match self {
+            Command::Day => &[Opt::Lat, Opt::Lon, Opt::Start, Opt::End, Opt::Res],
+            Command::Plan => &[
+                Opt::Catalogue,
+                Opt::Stations,
+                Opt::Start,
+                Opt::End,
+                Opt::Res,
+            ],
+            Command::Show => &[Opt::Catalogue, Opt::Start],
+            Command::Locate => &[Opt::Catalogue, Opt::Number, Opt::At],
+        }
     }
 }
 
-/// The request of words whose first is `show`.
-pub(crate) fn show(words: &[Text]) -> Result<Request, WordFault>
-    ensures value { result ≡ command_value (Some show) words.now }
-    ensures ranges { IfOk result IsInRange }
-    ensures names { IfOk result (AreNamesIn words.now) }
+/// Whether a word is that of a command.
+fn is_named(command: Command, word: &[u8]) -> bool
+    ensures { result ≡ is_named word.now command }
 {
-    match placed(&SHOW, words) {
-        Ok(found) => show_request(words, &found),
-        Err(fault) => Err(WordFault::Usage(fault)),
-    }
+    command.word() == word
 }
 
-/// The request of words whose first is `locate`.
-pub(crate) fn locate(words: &[Text]) -> Result<Request, WordFault>
-    ensures value { result ≡ command_value (Some locate) words.now }
-    ensures ranges { IfOk result IsInRange }
-    ensures names { IfOk result (AreNamesIn words.now) }
+/// The command among these that a word names, if there is one.
+fn command_in(commands: &[Command], word: &[u8]) -> Option<Command>
+    ensures { result ≡ command_in commands.now word.now }
 {
-    match placed(&LOCATE, words) {
-        Ok(found) => locate_request(words, &found),
-        Err(fault) => Err(WordFault::Usage(fault)),
-    }
+    commands
+        .iter()
+        .copied()
+        .find(|command| is_named(*command, word))
+}
+
+/// The command that a word names, if there is one.
+pub(crate) fn command_of(word: &[u8]) -> Option<Command>
+    ensures { result ≡ command_of word.now }
+{
+    command_in(&COMMANDS, word)
 }

@@ -15,6 +15,7 @@ pub(crate) struct Found {
     end: Option<Part>,
     res: Option<Part>,
     catalogue: Option<Part>,
+    stations: Option<Part>,
     number: Option<Part>,
     at: Option<Part>,
 }
@@ -31,6 +32,7 @@ impl Found {
             end: None,
             res: None,
             catalogue: None,
+            stations: None,
             number: None,
             at: None,
         }
@@ -47,6 +49,7 @@ impl Found {
             Opt::End => self.end,
             Opt::Res => self.res,
             Opt::Catalogue => self.catalogue,
+            Opt::Stations => self.stations,
             Opt::Number => self.number,
             Opt::At => self.at,
         }
@@ -63,6 +66,7 @@ impl Found {
             Opt::End => self.end = Some(part),
             Opt::Res => self.res = Some(part),
             Opt::Catalogue => self.catalogue = Some(part),
+            Opt::Stations => self.stations = Some(part),
             Opt::Number => self.number = Some(part),
             Opt::At => self.at = Some(part),
         }

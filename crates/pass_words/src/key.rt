@@ -17,6 +17,8 @@ pub enum Opt {
     Res,
     /// The file of element sets.
     Catalogue,
+    /// The file of stations.
+    Stations,
     /// The catalogue number of a satellite.
     Number,
     /// The instant of a position.
@@ -35,6 +37,7 @@ impl Opt {
             Opt::End => "end",
             Opt::Res => "res",
             Opt::Catalogue => "catalogue",
+            Opt::Stations => "stations",
             Opt::Number => "number",
             Opt::At => "at",
         }

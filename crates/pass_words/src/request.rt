@@ -11,6 +11,12 @@ pub enum Request {
         lon: Decimal,
         window: Window,
     },
+    /// When the stations of a file see the satellites of a catalogue over a window. Both are the names of files.
+    Plan {
+        catalogue: Part,
+        stations: Part,
+        window: Window,
+    },
     /// The element sets of a file that are nearest to an instant. The catalogue is the file's name.
     Show {
         catalogue: Part,

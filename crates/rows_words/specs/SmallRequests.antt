@@ -1,9 +1,10 @@
 -- What is said of small requests: where the names of their files stand, and the ranges of their numbers.
 use Rattle.std.specs.Prelude.{ℕ, List, [], ◌∷◌, codes, pos}
+use Rattle.elements.specs.Window.{WindowRecord}
 use Rattle.pass_words.specs.Names.{AreNamesIn}
 use Rattle.pass_words.specs.Ranges.{IsInRange}
 use Rattle.pass_words.specs.declared.request.Request.{Request}
-use Rattle.pass_words.specs.declared.request.Request.TheVariants.{Locate, Show}
+use Rattle.pass_words.specs.declared.request.Request.TheVariants.{Locate, Plan, Show}
 
 -- a command and another word of two bytes
 abbrev pub small_words : List (List ℕ)
@@ -21,6 +22,14 @@ of_number number = Locate (record { word = 2; from = 0 }) number (pos 0)
 abbrev pub named_by_command : Request
 named_by_command = Locate (record { word = 1; from = 0 }) 5 (pos 0)
 
+-- a tick
+abbrev pub a_tick : WindowRecord
+a_tick = record { start = pos 0; ticks = 1; resolution = 10_000 }
+
+-- the request for a plan with names of files in these words
+abbrev pub of_files : ℕ → ℕ → Request
+of_files catalogue stations = Plan (record { word = catalogue; from = 0 }) (record { word = stations; from = 1 }) a_tick
+
 -- a name stands in a word behind the command and is not empty; a number is below 1,000,000,000
 pub record SmallRequests : Type 0 where
   pub whole_word : AreNamesIn small_words (of_part 2 0)
@@ -32,3 +41,6 @@ pub record SmallRequests : Type 0 where
   pub located_in_the_command : ¬ (AreNamesIn small_words named_by_command)
   pub greatest : IsInRange (of_number 999_999_999)
   pub too_great : ¬ (IsInRange (of_number 1_000_000_000))
+  pub planned : AreNamesIn small_words (of_files 2 2)
+  pub sets_in_the_command : ¬ (AreNamesIn small_words (of_files 1 2))
+  pub stations_in_the_command : ¬ (AreNamesIn small_words (of_files 2 1))

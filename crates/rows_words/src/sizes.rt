@@ -1,9 +1,47 @@
-use crate::words::{Asked, day_words, expect};
+use crate::asked::{Asked, answer};
 use elements::Text;
 use pass_words::{Opt, UsageFault, WindowFault, WordFault};
 use std::alloc::{AllocError, Global};
 use std::process::Abort;
 use std::test::Fail;
+
+/// The words ask for this, or have this fault.
+fn expect(words: &[Text], wanted: Result<Asked<'_>, WordFault>, about: &str, rt: &impl Abort) {
+    assert_eq!(rt; answer(words), wanted, "{about}");
+}
+
+/// Adds the word `--key=value`.
+fn push_option(
+    alloc: Global,
+    words: &mut Vec<Text>,
+    key: &[u8],
+    value: &[u8],
+) -> Result<(), AllocError> {
+    let mut word = Vec::new(alloc);
+    word.extend_from_slice(key)?;
+    word.extend_from_slice(value)?;
+    words.push(Text::copy(alloc, word.as_slice())?)?;
+    Ok(())
+}
+
+/// The words of `day` with these values for lat, lon, start, end and res.
+fn day_words(
+    alloc: Global,
+    lat: &[u8],
+    lon: &[u8],
+    start: &[u8],
+    last: &[u8],
+    res: &[u8],
+) -> Result<Vec<Text>, AllocError> {
+    let mut words = Vec::new(alloc);
+    words.push(Text::copy(alloc, b"day")?)?;
+    push_option(alloc, &mut words, b"--lat=", lat)?;
+    push_option(alloc, &mut words, b"--lon=", lon)?;
+    push_option(alloc, &mut words, b"--start=", start)?;
+    push_option(alloc, &mut words, b"--end=", last)?;
+    push_option(alloc, &mut words, b"--res=", res)?;
+    Ok(words)
+}
 
 const START: &[u8] = b"2000-06-21T00:00:00Z";
 
@@ -46,7 +84,7 @@ fn words_of_a_megabyte_are_read_to_their_end(rt: HostRuntime) -> Result<(), Fail
     let mut long = vec![in alloc; b'0'; 1_000_000]?;
     // A million zeros write the number 0.
     let words = day_words(alloc, long.as_slice(), b"7", START, HOUR, b"1")?;
-    let wanted = Ok(Asked::Day(((0, 0), (7, 0), (14_817_600_000_000_000, 36_000_000, 10_000))));
+    let wanted = Ok(Asked::Day((0, 0), (7, 0), (14_817_600_000_000_000, 36_000_000, 10_000)));
     expect(words.as_slice(), wanted, "a megabyte of zeros", &rt);
     let words = day_words(alloc, b"0", b"0", START, long.as_slice(), b"1")?;
     expect(
