@@ -12,11 +12,11 @@ use Rattle.catalogue.specs.Names.{printed}
 use Rattle.pass_text.specs.DayLayout.{tick_text, window_line, span_line}
 use Rattle.sgp4_model.specs.declared.span.Span.{Span}
 use Rattle.plan_text.specs.HeadLines.{offset_line, station_line, printed_name}
-use Rattle.plan_text.specs.SatLine.{fate_word, sat_line}
+use Rattle.pass_text.specs.SatLine.{fate_word, sat_line}
 use Rattle.plan_text.specs.RowLines.{answer_words, lit_line, pair_line}
-use Rattle.plan_text.specs.declared.answer.RowAnswer.{RowAnswer}
-use Rattle.plan_text.specs.declared.fate.Fate.{Fate}
-use Rattle.plan_text.specs.declared.fate.Fate.TheVariants.{Eccentric, Inclined, Drag, Deep, Low, Edge, Far}
+use Rattle.sgp4_model.specs.Records.{AnswerRecord}
+use Rattle.sgp4_shape.specs.declared.fault.SatFault.{SatFault}
+use Rattle.sgp4_shape.specs.declared.fault.SatFault.TheVariants.{Eccentric, Inclined, Drag, Deep, Low, Edge, Far}
 use Rattle.layout_laws.proofs.FrontLemmas.{Above, IsWord, above-nil, front, decimal-then, signed-then, word_of}
 use Rattle.layout_laws.proofs.TickLemmas.{start-then, end-then}
 
@@ -55,17 +55,17 @@ unfolding station_line
 flat_station index name r = simp append_assoc refl
 
 -- the line of a satellite
-flat_sat : (number : ℕ) (fate : Option Fate) (name r : List ℕ) → sat_line number fate name ++ r ≡ codes "SAT " ++ (decimal number ++ (32 ∷ (fate_word fate ++ (32 ∷ (name ++ (10 ∷ r))))))
+flat_sat : (number : ℕ) (fate : Option SatFault) (name r : List ℕ) → sat_line number fate name ++ r ≡ codes "SAT " ++ (decimal number ++ (32 ∷ (fate_word fate ++ (32 ∷ (name ++ (10 ∷ r))))))
 unfolding sat_line
 flat_sat number fate name r = simp append_assoc refl
 
 -- the line of an answer of a satellite's light
-pub flat_lit : (start : ℤ) (number : ℕ) (answer : RowAnswer) (r : List ℕ) → lit_line start number answer ++ r ≡ codes "LIT " ++ (decimal number ++ (32 ∷ (answer_words start answer ++ (10 ∷ r))))
+pub flat_lit : (start : ℤ) (number : ℕ) (answer : AnswerRecord) (r : List ℕ) → lit_line start number answer ++ r ≡ codes "LIT " ++ (decimal number ++ (32 ∷ (answer_words start answer ++ (10 ∷ r))))
 unfolding lit_line
 flat_lit start number answer r = simp append_assoc refl
 
 -- the line of an answer of a station
-pub flat_pair : (start : ℤ) (number index : ℕ) (answer : RowAnswer) (r : List ℕ) → pair_line start number index answer ++ r ≡ codes "PAIR " ++ (decimal number ++ (32 ∷ (decimal index ++ (32 ∷ (answer_words start answer ++ (10 ∷ r))))))
+pub flat_pair : (start : ℤ) (number index : ℕ) (answer : AnswerRecord) (r : List ℕ) → pair_line start number index answer ++ r ≡ codes "PAIR " ++ (decimal number ++ (32 ∷ (decimal index ++ (32 ∷ (answer_words start answer ++ (10 ∷ r))))))
 unfolding pair_line
 flat_pair start number index answer r = simp append_assoc refl
 
@@ -96,7 +96,7 @@ station-then index m n r s h e =
     front 31 (printed_name m) (printed_name n) 10 r s (omega arith) (name_above m) (name_above n) number.1
 
 -- the words of fates differ
-fate_read : List ℕ → Option Fate
+fate_read : List ℕ → Option SatFault
 fate_read word =
     if get_or word 0 0 == 79 then None
     else if get_or word 0 0 == 73 then Some Inclined
@@ -108,7 +108,7 @@ fate_read word =
     else Some Edge
 
 -- they are told by their first two bytes
-fate_back : (fate : Option Fate) → fate_read (fate_word fate) ≡ fate
+fate_back : (fate : Option SatFault) → fate_read (fate_word fate) ≡ fate
 unfolding fate_read
 fate_back None = refl
 fate_back (Some Eccentric) = refl
@@ -120,7 +120,7 @@ fate_back (Some Edge) = refl
 fate_back (Some Far) = refl
 
 -- they are words
-fate_is_word : (fate : Option Fate) → IsWord (fate_word fate)
+fate_is_word : (fate : Option SatFault) → IsWord (fate_word fate)
 fate_is_word None = word_of (fate_word None) refl
 fate_is_word (Some Eccentric) = word_of (fate_word (Some Eccentric)) refl
 fate_is_word (Some Inclined) = word_of (fate_word (Some Inclined)) refl
@@ -135,13 +135,13 @@ pub is_name_above : (name : List ℕ) → IsName name → Above 31 name
 is_name_above name h k d below = let byte = h.printable k d below in omega (arith, byte.least)
 
 -- a satellite's number, fate and name are the same
-pub record IsSameHead (m n : ℕ) (f g : Option Fate) (x y : List ℕ) : Type 0 where
+pub record IsSameHead (m n : ℕ) (f g : Option SatFault) (x y : List ℕ) : Type 0 where
   pub number : m ≡ n
   pub fate : f ≡ g
   pub name : x ≡ y
 
 -- two lines of satellites
-pub sat-then : (m n : ℕ) (f g : Option Fate) (x y r s : List ℕ) → m < 2 ^ 32 → n < 2 ^ 32 → IsName x → IsName y → sat_line m f x ++ r ≡ sat_line n g y ++ s → IsSameHead m n f g x y × (r ≡ s)
+pub sat-then : (m n : ℕ) (f g : Option SatFault) (x y r s : List ℕ) → m < 2 ^ 32 → n < 2 ^ 32 → IsName x → IsName y → sat_line m f x ++ r ≡ sat_line n g y ++ s → IsSameHead m n f g x y × (r ≡ s)
 sat-then m n f g x y r s h k p q e =
     let flat = sym (flat_sat m f x r) ∙ e ∙ flat_sat n g y s in
     let number = decimal-then m n 32 _ _ (omega arith) (omega arith) (omega arith) (ap (drop 4) flat) in

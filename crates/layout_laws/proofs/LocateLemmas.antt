@@ -1,55 +1,18 @@
 -- What is printed of a satellite's place tells it.
 use Rattle.std.proofs.Common.{◌≡◌, ℕ, ◌<◌, ◌^◌, refl, sym, ap, ◌∙◌, arith, List, [], ◌∷◌, ◌++◌, drop, get_or, codes, ℤ, pos, negsuc, Option, None, Some, decimal}
 use Rattle.std.specs.Fmt.{signed_decimal}
-use Rattle.std.specs.Option.{option_map}
 use Rattle.std.proofs.lemmas.List.{append_assoc}
 use Rattle.jiff_core.proofs.SignedLemmas.{signed_arith}
 use lib.Signed.{mag}
 use Rattle.catalogue.specs.Entries.{IsName}
 use Rattle.civil_time.specs.InstantText.{instant_text}
-use Rattle.pass_text.specs.LocateLayout.{EdgeRecord, FoundRecord, LocateRecord, missing, refused, inside, unplaced, at_line, missing_line, edge_line, found_lines}
-use Rattle.pass_text.specs.SatLine as line
-use Rattle.plan_text.specs.SatLine as plan
-use Rattle.plan_text.specs.declared.fate.Fate.{Fate}
-use Rattle.plan_text.specs.declared.fate.Fate.TheVariants as fates
+use Rattle.pass_text.specs.LocateLayout.{EdgeRecord, FoundRecord, LocateRecord, missing, refused, inside, decayed, at_line, missing_line, edge_line, found_lines}
+use Rattle.pass_text.specs.SatLine.{sat_line}
 use Rattle.sgp4_shape.specs.declared.fault.SatFault.{SatFault}
-use Rattle.sgp4_shape.specs.declared.fault.SatFault.TheVariants.{Eccentric, Inclined, Drag, Deep, Low, Far}
 use Rattle.layout_laws.specs.LocateLaw.{IsBound, IsEdge, IsFound, LayoutsTellPlaces}
 use Rattle.layout_laws.proofs.FrontLemmas.{decimal-then, signed-then}
 use Rattle.layout_laws.proofs.LineLemmas.{sat-then}
 use Rattle.layout_laws.proofs.TickLemmas.{instant-then, whole_nanos}
-
--- the fault of a fate that a set has
-fault_of : Fate → SatFault
-fault_of fates.Eccentric = Eccentric
-fault_of fates.Inclined = Inclined
-fault_of fates.Drag = Drag
-fault_of fates.Deep = Deep
-fault_of fates.Low = Low
-fault_of fates.Edge = Low
-fault_of fates.Far = Far
-
--- the two lines of satellites are one
-pub same_line : (number : ℕ) (fault : Option SatFault) (name : List ℕ) → line.sat_line number fault name ≡ plan.sat_line number (option_map plan.fate_of fault) name
-unfolding line.sat_line plan.sat_line
-same_line number None name = refl
-same_line number (Some Eccentric) name = refl
-same_line number (Some Inclined) name = refl
-same_line number (Some Drag) name = refl
-same_line number (Some Deep) name = refl
-same_line number (Some Low) name = refl
-same_line number (Some Far) name = refl
-
--- a fault is that of its fate
-fault_back : (fault : Option SatFault) → option_map fault_of (option_map plan.fate_of fault) ≡ fault
-unfolding fault_of
-fault_back None = refl
-fault_back (Some Eccentric) = refl
-fault_back (Some Inclined) = refl
-fault_back (Some Drag) = refl
-fault_back (Some Deep) = refl
-fault_back (Some Low) = refl
-fault_back (Some Far) = refl
 
 -- the line of a satellite, with the fault of a set
 record IsSameSat (m n : ℕ) (f g : Option SatFault) (x y r s : List ℕ) : Type 0 where
@@ -59,11 +22,10 @@ record IsSameSat (m n : ℕ) (f g : Option SatFault) (x y r s : List ℕ) : Type
   rest : r ≡ s
 
 -- two lines of satellites
-line-then : (m n : ℕ) (f g : Option SatFault) (x y r s : List ℕ) → m < 2 ^ 32 → n < 2 ^ 32 → IsName x → IsName y → line.sat_line m f x ++ r ≡ line.sat_line n g y ++ s → IsSameSat m n f g x y r s
+line-then : (m n : ℕ) (f g : Option SatFault) (x y r s : List ℕ) → m < 2 ^ 32 → n < 2 ^ 32 → IsName x → IsName y → sat_line m f x ++ r ≡ sat_line n g y ++ s → IsSameSat m n f g x y r s
 line-then m n f g x y r s h k p q e =
-    let turned = ap (λ t. t ++ r) (sym (same_line m f x)) ∙ e ∙ ap (λ t. t ++ s) (same_line n g y) in
-    let parts = sat-then m n (option_map plan.fate_of f) (option_map plan.fate_of g) x y r s h k p q turned in
-    record { number = parts.0.number; fault = sym (fault_back f) ∙ ap (option_map fault_of) parts.0.fate ∙ fault_back g; name = parts.0.name; rest = parts.1 }
+    let parts = sat-then m n f g x y r s h k p q e in
+    record { number = parts.0.number; fault = parts.0.fate; name = parts.0.name; rest = parts.1 }
 
 -- the line of an instant, a word after another
 flat_at : (at : ℤ) (r : List ℕ) → at_line at ++ r ≡ codes "AT " ++ (instant_text 9 at ++ (10 ∷ r))
@@ -98,8 +60,8 @@ edge-then letter x y r s h k e =
     (same_edge x y low.0 high.0, high.1)
 
 -- how the lines begin
-head_of_sat : (number : ℕ) (fault : Option SatFault) (name r : List ℕ) → get_or (line.sat_line number fault name ++ r) 0 0 ≡ 83
-unfolding line.sat_line
+head_of_sat : (number : ℕ) (fault : Option SatFault) (name r : List ℕ) → get_or (sat_line number fault name ++ r) 0 0 ≡ 83
+unfolding sat_line
 head_of_sat number fault name r = refl
 
 -- that of a missing number with an M
@@ -117,16 +79,16 @@ abbrev last_line : List ℕ
 last_line = codes "END\n"
 
 -- the line of a missing number is no line of a satellite
-missing_or_sat : (m n : ℕ) (fault : Option SatFault) (name r s : List ℕ) → missing_line m ++ r ≡ line.sat_line n fault name ++ s → ⊥
+missing_or_sat : (m n : ℕ) (fault : Option SatFault) (name r s : List ℕ) → missing_line m ++ r ≡ sat_line n fault name ++ s → ⊥
 missing_or_sat m n fault name r s e = omega (arith, ap (λ t. get_or t 0 0) e, head_of_missing m r, head_of_sat n fault name s)
 
 -- bounds are no word of a satellite without them
-edge_or_unplaced : (x : EdgeRecord) (r s : List ℕ) → edge_line (88 ∷ []) x.low x.high ++ r ≡ codes "UNPLACED\n" ++ s → ⊥
-edge_or_unplaced x r s e = omega (arith, ap (λ t. get_or t 0 0) e, head_of_edge 88 x.low x.high r)
+edge_or_decayed : (x : EdgeRecord) (r s : List ℕ) → edge_line (88 ∷ []) x.low x.high ++ r ≡ codes "DECAYED\n" ++ s → ⊥
+edge_or_decayed x r s e = omega (arith, ap (λ t. get_or t 0 0) e, head_of_edge 88 x.low x.high r)
 
 -- the lines of what was found, flat
-flat_sat_and : (n : ℕ) (fault : Option SatFault) (name t r : List ℕ) → (line.sat_line n fault name ++ t) ++ r ≡ line.sat_line n fault name ++ (t ++ r)
-flat_sat_and n fault name t r = append_assoc (line.sat_line n fault name) t r
+flat_sat_and : (n : ℕ) (fault : Option SatFault) (name t r : List ℕ) → (sat_line n fault name ++ t) ++ r ≡ sat_line n fault name ++ (t ++ r)
+flat_sat_and n fault name t r = append_assoc (sat_line n fault name) t r
 
 -- three lines of bounds, one after another
 flat_edges : (x y z : EdgeRecord) (r : List ℕ) → (edge_line (codes "X") x.low x.high ++ (edge_line (codes "Y") y.low y.high ++ edge_line (codes "Z") z.low z.high)) ++ r ≡ edge_line (88 ∷ []) x.low x.high ++ (edge_line (89 ∷ []) y.low y.high ++ (edge_line (90 ∷ []) z.low z.high ++ r))
@@ -139,7 +101,7 @@ found-then m n missing missing h k p q e =
     (number.0, refl)
 found-then m n missing (refused fault name) h k p q e = absurd (missing_or_sat m n _ name _ _ e)
 found-then m n missing (inside name x y z) h k p q e = absurd (missing_or_sat m n None name _ _ (e ∙ flat_sat_and n None name _ last_line))
-found-then m n missing (unplaced name) h k p q e = absurd (missing_or_sat m n None name _ _ (e ∙ flat_sat_and n None name _ last_line))
+found-then m n missing (decayed name) h k p q e = absurd (missing_or_sat m n None name _ _ (e ∙ flat_sat_and n None name _ last_line))
 found-then m n (refused fault name) missing h k p q e = absurd (missing_or_sat n m _ name _ _ (sym e))
 found-then m n (refused f x) (refused g y) h k p q e =
     let sat = line-then m n (Some f) (Some g) x y _ _ h k p q e in
@@ -148,7 +110,7 @@ found-then m n (refused f x) (refused g y) h k p q e =
 found-then m n (refused f x) (inside name a b c) h k p q e =
     let sat = line-then m n (Some f) None x name _ _ h k p q.0 (e ∙ flat_sat_and n None name _ last_line) in
     absurd (let same = sat.fault in cc)
-found-then m n (refused f x) (unplaced name) h k p q e =
+found-then m n (refused f x) (decayed name) h k p q e =
     let sat = line-then m n (Some f) None x name _ _ h k p q (e ∙ flat_sat_and n None name _ last_line) in
     absurd (let same = sat.fault in cc)
 found-then m n (inside name a b c) missing h k p q e = absurd (missing_or_sat n m None name _ _ (sym e ∙ flat_sat_and m None name _ last_line))
@@ -161,19 +123,19 @@ found-then m n (inside x a b c) (inside y i j k) h l p q e =
     let two = edge-then 89 b j _ _ p.2 q.2 one.1 in
     let three = edge-then 90 c k _ _ p.3 q.3 two.1 in
     (sat.number, rw (sat.name, one.0, two.0, three.0) refl)
-found-then m n (inside x a b c) (unplaced y) h k p q e =
+found-then m n (inside x a b c) (decayed y) h k p q e =
     let sat = line-then m n None None x y _ _ h k p.0 q (sym (flat_sat_and m None x _ last_line) ∙ e ∙ flat_sat_and n None y _ last_line) in
-    absurd (edge_or_unplaced a _ _ (sym (flat_edges a b c last_line) ∙ sat.rest))
-found-then m n (unplaced name) missing h k p q e = absurd (missing_or_sat n m None name _ _ (sym e ∙ flat_sat_and m None name _ last_line))
-found-then m n (unplaced x) (refused g y) h k p q e =
+    absurd (edge_or_decayed a _ _ (sym (flat_edges a b c last_line) ∙ sat.rest))
+found-then m n (decayed name) missing h k p q e = absurd (missing_or_sat n m None name _ _ (sym e ∙ flat_sat_and m None name _ last_line))
+found-then m n (decayed x) (refused g y) h k p q e =
     let sat = line-then m n None (Some g) x y _ _ h k p q (sym (flat_sat_and m None x _ last_line) ∙ e) in
     absurd (let same = sat.fault in cc)
-found-then m n (unplaced x) (inside y a b c) h k p q e =
+found-then m n (decayed x) (inside y a b c) h k p q e =
     let sat = line-then m n None None x y _ _ h k p q.0 (sym (flat_sat_and m None x _ last_line) ∙ e ∙ flat_sat_and n None y _ last_line) in
-    absurd (edge_or_unplaced a _ _ (sym (flat_edges a b c last_line) ∙ sym sat.rest))
-found-then m n (unplaced x) (unplaced y) h k p q e =
+    absurd (edge_or_decayed a _ _ (sym (flat_edges a b c last_line) ∙ sym sat.rest))
+found-then m n (decayed x) (decayed y) h k p q e =
     let sat = line-then m n None None x y _ _ h k p q (sym (flat_sat_and m None x _ last_line) ∙ e ∙ flat_sat_and n None y _ last_line) in
-    (sat.number, ap unplaced sat.name)
+    (sat.number, ap decayed sat.name)
 
 -- places of equal parts are equal
 same_place : (a b : LocateRecord) → a.at ≡ b.at → a.number ≡ b.number → a.found ≡ b.found → a ≡ b

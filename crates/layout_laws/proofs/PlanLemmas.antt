@@ -7,13 +7,14 @@ use Rattle.jiff_core.proofs.SignedLemmas.{signed_arith}
 use Rattle.jiff_core.specs.Calendar.{IsWithin as IsFromMinus}
 use lib.Signed.{mag}
 use Rattle.elements.specs.Window.{WindowRecord, IsWindow}
-use Rattle.plan_text.specs.declared.answer.RowAnswer.{RowAnswer}
-use Rattle.plan_text.specs.declared.fate.Fate.{Fate}
+use Rattle.sgp4_model.specs.Records.{AnswerRecord}
+use Rattle.sgp4_shape.specs.declared.fault.SatFault.{SatFault}
 use Rattle.plan_text.specs.HeadLines.{offset_line, offset_lines, printed_name, station_line, station_lines}
 use Rattle.plan_text.specs.Plan.{StandingRecord, refused, planned, SatelliteRecord, PlanRecord, fate_of, HasRows, IsSatellite, IsPlan}
 use Rattle.plan_text.specs.PlanLayout.{plan_tail}
 use Rattle.plan_text.specs.RowLines.{lit_line, lit_letter, lines_after, lit_block, pair_blocks, standing_blocks, row_blocks}
-use Rattle.plan_text.specs.SatLine.{sat_line, sat_lines}
+use Rattle.pass_text.specs.SatLine.{sat_line}
+use Rattle.plan_text.specs.SatLine.{sat_lines}
 use Rattle.plan_text.specs.TableLines.{table_line, pass_lines, table_block, table_blocks}
 use Rattle.plan_text.specs.Timetable.{timetable}
 use Rattle.layout_laws.specs.PlanLaw.{LayoutsTellPlans}
@@ -72,7 +73,7 @@ AreSameHeads (x ∷ xs) [] = ⊥
 AreSameHeads (x ∷ xs) (y ∷ ys) = (x.number ≡ y.number) × (x.name ≡ y.name) × (fate_of x.standing ≡ fate_of y.standing) × AreSameHeads xs ys
 
 -- the line of a satellite begins with an S
-starts : (number : ℕ) (fate : Option Fate) (name r : List ℕ) → get_or (sat_line number fate name ++ r) 0 0 ≡ 83
+starts : (number : ℕ) (fate : Option SatFault) (name r : List ℕ) → get_or (sat_line number fate name ++ r) 0 0 ≡ 83
 unfolding sat_line
 starts number fate name r = refl
 
@@ -146,7 +147,7 @@ record IsAfterSats (text : List ℕ) : Type 0 where
   second : get_or text 1 0 ≢ 84
 
 -- a row of light begins so
-lit_begins : (start : ℤ) (n : ℕ) (answer : RowAnswer) (r : List ℕ) → IsAfterSats (lit_line start n answer ++ r)
+lit_begins : (start : ℤ) (n : ℕ) (answer : AnswerRecord) (r : List ℕ) → IsAfterSats (lit_line start n answer ++ r)
 unfolding lit_line
 lit_begins start n answer r = record { first = λ e. omega arith; second = λ e. omega arith }
 
@@ -162,7 +163,7 @@ rows_begin start [] r h = record { first = λ e. omega (arith, h.first); second 
 rows_begin start (x ∷ xs) r h = rw append_assoc (standing_begins start x.number x.standing (row_blocks start xs ++ r) (rows_begin start xs r h))
 
 -- the second byte of the line of a satellite is no T
-sat_begins : (n : ℕ) (fate : Option Fate) (name r : List ℕ) → get_or (sat_line n fate name ++ r) 1 0 ≢ 84
+sat_begins : (n : ℕ) (fate : Option SatFault) (name r : List ℕ) → get_or (sat_line n fate name ++ r) 1 0 ≢ 84
 unfolding sat_line
 sat_begins n fate name r e = omega arith
 

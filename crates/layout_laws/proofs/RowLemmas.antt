@@ -10,18 +10,17 @@ use Rattle.sgp4_model.specs.declared.span.Mark.TheVariants.{Yes, No, Undecided}
 use Rattle.sgp4_model.specs.declared.span.Span.{Span}
 use Rattle.plan_text.specs.Plan.{RowRecord, AnswerIsWithin, IsWithin, IsCounted, IsRow, most_spans}
 use Rattle.plan_text.specs.RowLines.{unresolved_words, answer_words, lit_line, pair_line, lit_letter, pair_letter, span_lines, lines_after, lit_block, pair_block, pair_blocks}
-use Rattle.plan_text.specs.declared.answer.RowAnswer.{RowAnswer}
-use Rattle.plan_text.specs.declared.answer.RowAnswer.TheVariants.{Spans, Unresolved, Full, Decays}
+use Rattle.sgp4_model.specs.Records.{AnswerRecord, spans, unresolved, full, decays}
 use Rattle.layout_laws.proofs.FrontLemmas.{decimal-then}
 use Rattle.layout_laws.proofs.LineLemmas.{flat_lit, flat_pair, flat_span}
 use Rattle.layout_laws.proofs.TickLemmas.{tick-then}
 
 -- the counts of an answer are of 32 bits
-abbrev pub IsSmall : RowAnswer → Type 0
-IsSmall (Spans count) = count < 2 ^ 64
-IsSmall (Unresolved from to) = ⊤
-IsSmall (Full at) = ⊤
-IsSmall (Decays at) = ⊤
+abbrev pub IsSmall : AnswerRecord → Type 0
+IsSmall (spans count) = count < 2 ^ 64
+IsSmall (unresolved from to) = ⊤
+IsSmall (full at) = ⊤
+IsSmall (decays at) = ⊤
 
 -- the words of a stretch
 flat_unresolved : (start : ℤ) (from to : ℕ) (t : List ℕ) → unresolved_words start from to ++ t ≡ codes "UNRESOLVED " ++ (tick_text start from ++ (32 ∷ (tick_text start to ++ t)))
@@ -37,50 +36,50 @@ unresolved-then w h a b c d r s p q x y e =
     (from.0, to.0, to.1)
 
 -- an answer begins with a letter of its own
-letter_of : RowAnswer → ℕ
-letter_of (Spans count) = 83
-letter_of (Unresolved from to) = 85
-letter_of (Full at) = 70
-letter_of (Decays at) = 68
+letter_of : AnswerRecord → ℕ
+letter_of (spans count) = 83
+letter_of (unresolved from to) = 85
+letter_of (full at) = 70
+letter_of (decays at) = 68
 
 -- it stands first
-letter_there : (start : ℤ) (answer : RowAnswer) (r : List ℕ) → get_or (answer_words start answer ++ r) 0 0 ≡ letter_of answer
+letter_there : (start : ℤ) (answer : AnswerRecord) (r : List ℕ) → get_or (answer_words start answer ++ r) 0 0 ≡ letter_of answer
 unfolding answer_words unresolved_words letter_of
-letter_there start (Spans count) r = refl
-letter_there start (Unresolved from to) r = refl
-letter_there start (Full at) r = refl
-letter_there start (Decays at) r = refl
+letter_there start (spans count) r = refl
+letter_there start (unresolved from to) r = refl
+letter_there start (full at) r = refl
+letter_there start (decays at) r = refl
 
 -- the words of two answers that begin with one letter, at the end of their line
-letters-then : (w : WindowRecord) → IsWindow w → (x y : RowAnswer) (r s : List ℕ) → AnswerIsWithin w.ticks x → AnswerIsWithin w.ticks y → IsSmall x → IsSmall y → letter_of x ≡ letter_of y → answer_words w.start x ++ 10 ∷ r ≡ answer_words w.start y ++ 10 ∷ s → (x ≡ y) × (r ≡ s)
+letters-then : (w : WindowRecord) → IsWindow w → (x y : AnswerRecord) (r s : List ℕ) → AnswerIsWithin w.ticks x → AnswerIsWithin w.ticks y → IsSmall x → IsSmall y → letter_of x ≡ letter_of y → answer_words w.start x ++ 10 ∷ r ≡ answer_words w.start y ++ 10 ∷ s → (x ≡ y) × (r ≡ s)
 unfolding answer_words letter_of
-letters-then w h (Spans m) (Spans n) r s p q small few same e =
+letters-then w h (spans m) (spans n) r s p q small few same e =
     let parts = decimal-then m n 10 r s (omega arith) small few (ap (drop 6) e) in
-    (ap Spans parts.0, parts.1)
-letters-then w h (Spans m) (Unresolved from to) r s p q small few same e = absurd (omega arith)
-letters-then w h (Spans m) (Full at) r s p q small few same e = absurd (omega arith)
-letters-then w h (Spans m) (Decays at) r s p q small few same e = absurd (omega arith)
-letters-then w h (Unresolved from to) (Spans n) r s p q small few same e = absurd (omega arith)
-letters-then w h (Unresolved a b) (Unresolved c d) r s p q small few same e =
+    (ap spans parts.0, parts.1)
+letters-then w h (spans m) (unresolved from to) r s p q small few same e = absurd (omega arith)
+letters-then w h (spans m) (full at) r s p q small few same e = absurd (omega arith)
+letters-then w h (spans m) (decays at) r s p q small few same e = absurd (omega arith)
+letters-then w h (unresolved from to) (spans n) r s p q small few same e = absurd (omega arith)
+letters-then w h (unresolved a b) (unresolved c d) r s p q small few same e =
     let parts = unresolved-then w h a b c d (10 ∷ r) (10 ∷ s) p.0 p.1 q.0 q.1 e in
     (rw (parts.0, parts.1) refl, ap (drop 1) parts.2)
-letters-then w h (Unresolved from to) (Full at) r s p q small few same e = absurd (omega arith)
-letters-then w h (Unresolved from to) (Decays at) r s p q small few same e = absurd (omega arith)
-letters-then w h (Full at) (Spans n) r s p q small few same e = absurd (omega arith)
-letters-then w h (Full at) (Unresolved from to) r s p q small few same e = absurd (omega arith)
-letters-then w h (Full a) (Full b) r s p q small few same e =
+letters-then w h (unresolved from to) (full at) r s p q small few same e = absurd (omega arith)
+letters-then w h (unresolved from to) (decays at) r s p q small few same e = absurd (omega arith)
+letters-then w h (full at) (spans n) r s p q small few same e = absurd (omega arith)
+letters-then w h (full at) (unresolved from to) r s p q small few same e = absurd (omega arith)
+letters-then w h (full a) (full b) r s p q small few same e =
     let parts = tick-then w h a b _ _ p q (ap (drop 5) e) in
-    (ap Full parts.0, ap (drop 1) parts.1)
-letters-then w h (Full at) (Decays b) r s p q small few same e = absurd (omega arith)
-letters-then w h (Decays at) (Spans n) r s p q small few same e = absurd (omega arith)
-letters-then w h (Decays at) (Unresolved from to) r s p q small few same e = absurd (omega arith)
-letters-then w h (Decays at) (Full b) r s p q small few same e = absurd (omega arith)
-letters-then w h (Decays a) (Decays b) r s p q small few same e =
+    (ap full parts.0, ap (drop 1) parts.1)
+letters-then w h (full at) (decays b) r s p q small few same e = absurd (omega arith)
+letters-then w h (decays at) (spans n) r s p q small few same e = absurd (omega arith)
+letters-then w h (decays at) (unresolved from to) r s p q small few same e = absurd (omega arith)
+letters-then w h (decays at) (full b) r s p q small few same e = absurd (omega arith)
+letters-then w h (decays a) (decays b) r s p q small few same e =
     let parts = tick-then w h a b _ _ p q (ap (drop 7) e) in
-    (ap Decays parts.0, ap (drop 1) parts.1)
+    (ap decays parts.0, ap (drop 1) parts.1)
 
 -- the words of an answer, at the end of their line
-pub answer-then : (w : WindowRecord) → IsWindow w → (x y : RowAnswer) (r s : List ℕ) → AnswerIsWithin w.ticks x → AnswerIsWithin w.ticks y → IsSmall x → IsSmall y → answer_words w.start x ++ 10 ∷ r ≡ answer_words w.start y ++ 10 ∷ s → (x ≡ y) × (r ≡ s)
+pub answer-then : (w : WindowRecord) → IsWindow w → (x y : AnswerRecord) (r s : List ℕ) → AnswerIsWithin w.ticks x → AnswerIsWithin w.ticks y → IsSmall x → IsSmall y → answer_words w.start x ++ 10 ∷ r ≡ answer_words w.start y ++ 10 ∷ s → (x ≡ y) × (r ≡ s)
 answer-then w h x y r s p q small few e =
     letters-then w h x y r s p q small few (sym (letter_there w.start x (10 ∷ r)) ∙ ap (λ t. get_or t 0 0) e ∙ letter_there w.start y (10 ∷ s)) e
 
@@ -145,18 +144,18 @@ spans-then letter l w h (x ∷ xs) (y ∷ ys) r s len p q e =
     (rw (first.0, rest.0) refl, rest.1)
 
 -- the lines after an answer
-after-then : (letter : Mark → List ℕ) → AreLetters letter → (w : WindowRecord) → IsWindow w → (answer : RowAnswer) (xs ys : List Span) (r s : List ℕ) → IsCounted answer xs → IsCounted answer ys → All (IsWithin w.ticks) xs → All (IsWithin w.ticks) ys → lines_after letter w.start answer xs ++ r ≡ lines_after letter w.start answer ys ++ s → (xs ≡ ys) × (r ≡ s)
-after-then letter l w h (Spans count) xs ys r s c d p q e = spans-then letter l w h xs ys r s (sym c ∙ d) p q e
-after-then letter l w h (Unresolved from to) xs ys r s c d p q e = (c ∙ sym d, e)
-after-then letter l w h (Full at) xs ys r s c d p q e = (c ∙ sym d, e)
-after-then letter l w h (Decays at) xs ys r s c d p q e = (c ∙ sym d, e)
+after-then : (letter : Mark → List ℕ) → AreLetters letter → (w : WindowRecord) → IsWindow w → (answer : AnswerRecord) (xs ys : List Span) (r s : List ℕ) → IsCounted answer xs → IsCounted answer ys → All (IsWithin w.ticks) xs → All (IsWithin w.ticks) ys → lines_after letter w.start answer xs ++ r ≡ lines_after letter w.start answer ys ++ s → (xs ≡ ys) × (r ≡ s)
+after-then letter l w h (spans count) xs ys r s c d p q e = spans-then letter l w h xs ys r s (sym c ∙ d) p q e
+after-then letter l w h (unresolved from to) xs ys r s c d p q e = (c ∙ sym d, e)
+after-then letter l w h (full at) xs ys r s c d p q e = (c ∙ sym d, e)
+after-then letter l w h (decays at) xs ys r s c d p q e = (c ∙ sym d, e)
 
 -- a count of the spans of a row is small
-small : (answer : RowAnswer) (list : List Span) → IsCounted answer list → length list ≤ most_spans → IsSmall answer
-small (Spans count) list c h = omega arith
-small (Unresolved from to) list c h = tt
-small (Full at) list c h = tt
-small (Decays at) list c h = tt
+small : (answer : AnswerRecord) (list : List Span) → IsCounted answer list → length list ≤ most_spans → IsSmall answer
+small (spans count) list c h = omega arith
+small (unresolved from to) list c h = tt
+small (full at) list c h = tt
+small (decays at) list c h = tt
 
 -- rows of equal parts are equal
 same_row : (x y : RowRecord) → x.answer ≡ y.answer → x.list ≡ y.list → x ≡ y

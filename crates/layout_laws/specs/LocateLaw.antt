@@ -3,7 +3,7 @@ use Rattle.std.specs.Prelude.{◌≡◌, ◌<◌, ◌-◌, ◌^◌, ℤ, pos, ne
 use Rattle.jiff_core.specs.Calendar.{IsBetween}
 use Rattle.catalogue.specs.Entries.{IsName}
 use Rattle.civil_time.specs.Scale.{IsInstant}
-use Rattle.pass_text.specs.LocateLayout.{EdgeRecord, FoundRecord, LocateRecord, missing, refused, inside, unplaced, locate_layout}
+use Rattle.pass_text.specs.LocateLayout.{EdgeRecord, FoundRecord, LocateRecord, missing, refused, inside, decayed, locate_layout}
 
 -- a bound is a number of 64 bits
 abbrev pub IsBound : ℤ → Type 0
@@ -19,7 +19,7 @@ abbrev pub IsFound : FoundRecord → Type 0
 IsFound missing = ⊤
 IsFound (refused fault name) = IsName name
 IsFound (inside name x y z) = IsName name × IsEdge x × IsEdge y × IsEdge z
-IsFound (unplaced name) = IsName name
+IsFound (decayed name) = IsName name
 
 -- an instant, a number of 32 bits, and what was found
 pub record IsPlace (place : LocateRecord) : Type 0 where

@@ -4,3 +4,4 @@ pub mod LocateLayout
 pub mod Refusals
 pub mod SatLine
 pub mod ShowLayout
+pub mod StationFaults

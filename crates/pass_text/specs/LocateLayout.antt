@@ -11,12 +11,12 @@ pub record EdgeRecord : Type 0 where
   pub high : ℤ
 
 -- what was found of a satellite: none has the number; one with a name, which is refused; one that is inside bounds of
--- its three coordinates; one of which no bounds are known
+-- its three coordinates; one that has decayed, and has no bounds
 pub data FoundRecord : Type 0 where
   missing : FoundRecord
   refused : SatFault → List ℕ → FoundRecord
   inside : List ℕ → EdgeRecord → EdgeRecord → EdgeRecord → FoundRecord
-  unplaced : List ℕ → FoundRecord
+  decayed : List ℕ → FoundRecord
 
 -- an instant, in nanoseconds from 2000-01-01T12:00:00 UTC; a catalogue number; what was found of its satellite
 pub record LocateRecord : Type 0 where
@@ -44,7 +44,7 @@ found_lines number (refused fault name) = sat_line number (Some fault) name
 found_lines number (inside name x y z) =
     sat_line number None name
     ++ (edge_line (codes "X") x.low x.high ++ (edge_line (codes "Y") y.low y.high ++ edge_line (codes "Z") z.low z.high))
-found_lines number (unplaced name) = sat_line number None name ++ codes "UNPLACED\n"
+found_lines number (decayed name) = sat_line number None name ++ codes "DECAYED\n"
 
 -- the whole text: the heading, the instant, what was found, the end
 abbrev pub locate_layout : LocateRecord → List ℕ

@@ -8,8 +8,8 @@ use elements::Instant;
 /// The first line.
 pub const PASSLOCATE: &[u8] = b"PASSLOCATE 1\n";
 
-/// The line of a satellite of which no bounds are known.
-pub const UNPLACED: &[u8] = b"UNPLACED\n";
+/// The line of a satellite that has decayed, so that it has no bounds.
+pub const DECAYED: &[u8] = b"DECAYED\n";
 
 /// `AT <instant>`, with nine decimals
 #[tactic(auto, unfolding(crate::specs::LocateLayout::at_line))]

@@ -17,6 +17,7 @@ fn fate_word(fate: Option<SatFault>) -> &'static [u8]
         Some(SatFault::Drag) => b"DRAG",
         Some(SatFault::Deep) => b"DEEP",
         Some(SatFault::Low) => b"LOW",
+        Some(SatFault::Edge) => b"EDGE",
         Some(SatFault::Far) => b"FAR",
     }
 }

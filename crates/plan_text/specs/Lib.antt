@@ -4,7 +4,6 @@ pub mod Plan
 pub mod PlanLayout
 pub mod RowLines
 pub mod SatLine
-pub mod StationFaults
 pub mod Summary
 pub mod TableLines
 pub mod Timetable

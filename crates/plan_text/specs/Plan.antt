@@ -5,19 +5,18 @@ use Rattle.catalogue.specs.Entries.{IsName, most_entries}
 use Rattle.elements.specs.Window.{WindowRecord, IsWindow}
 use Rattle.sgp4_model.specs.declared.span.Span.{Span}
 use Rattle.station_file.specs.Rows as stations
-use Rattle.plan_text.specs.declared.answer.RowAnswer.{RowAnswer}
-use Rattle.plan_text.specs.declared.answer.RowAnswer.TheVariants.{Spans, Unresolved, Full, Decays}
-use Rattle.plan_text.specs.declared.fate.Fate.{Fate}
+use Rattle.sgp4_model.specs.Records.{AnswerRecord, spans, unresolved, full, decays}
+use Rattle.sgp4_shape.specs.declared.fault.SatFault.{SatFault}
 
 -- a row: its answer, and its spans in order
 pub record RowRecord : Type 0 where
-  pub answer : RowAnswer
+  pub answer : AnswerRecord
   pub list : List Span
 
 -- what is made of a satellite: it is refused; or it has the row of its light, and the rows of the stations that see it,
 -- in the order of the stations
 pub data StandingRecord : Type 0 where
-  refused : Fate → StandingRecord
+  refused : SatFault → StandingRecord
   planned : RowRecord → List RowRecord → StandingRecord
 
 -- a satellite: its catalogue number, its name, and what is made of it
@@ -34,7 +33,7 @@ pub record PlanRecord : Type 0 where
   pub satellites : List SatelliteRecord
 
 -- why the satellite is refused, where it is
-abbrev pub fate_of : StandingRecord → Option Fate
+abbrev pub fate_of : StandingRecord → Option SatFault
 fate_of (refused fate) = Some fate
 fate_of (planned lit pairs) = None
 
@@ -53,18 +52,18 @@ pub record IsWithin (ticks : ℕ) (span : Span) : Type 0 where
   pub to : span.to ≤ ticks
 
 -- so do the ticks of an answer
-abbrev pub AnswerIsWithin : ℕ → RowAnswer → Type 0
-AnswerIsWithin ticks (Spans count) = ⊤
-AnswerIsWithin ticks (Unresolved from to) = (from ≤ ticks) × (to ≤ ticks)
-AnswerIsWithin ticks (Full at) = at ≤ ticks
-AnswerIsWithin ticks (Decays at) = at ≤ ticks
+abbrev pub AnswerIsWithin : ℕ → AnswerRecord → Type 0
+AnswerIsWithin ticks (spans count) = ⊤
+AnswerIsWithin ticks (unresolved from to) = (from ≤ ticks) × (to ≤ ticks)
+AnswerIsWithin ticks (full at) = at ≤ ticks
+AnswerIsWithin ticks (decays at) = at ≤ ticks
 
 -- the answer counts the spans, and there are none where it says why
-abbrev pub IsCounted : RowAnswer → List Span → Type 0
-IsCounted (Spans count) list = count ≡ length list
-IsCounted (Unresolved from to) list = list ≡ []
-IsCounted (Full at) list = list ≡ []
-IsCounted (Decays at) list = list ≡ []
+abbrev pub IsCounted : AnswerRecord → List Span → Type 0
+IsCounted (spans count) list = count ≡ length list
+IsCounted (unresolved from to) list = list ≡ []
+IsCounted (full at) list = list ≡ []
+IsCounted (decays at) list = list ≡ []
 
 -- a row of a window of so many ticks
 pub record IsRow (ticks : ℕ) (row : RowRecord) : Type 0 where

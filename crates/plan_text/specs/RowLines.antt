@@ -4,8 +4,7 @@ use Rattle.sgp4_model.specs.declared.span.Mark.{Mark}
 use Rattle.sgp4_model.specs.declared.span.Mark.TheVariants.{Yes, No, Undecided}
 use Rattle.sgp4_model.specs.declared.span.Span.{Span}
 use Rattle.pass_text.specs.DayLayout.{tick_text, span_line}
-use Rattle.plan_text.specs.declared.answer.RowAnswer.{RowAnswer}
-use Rattle.plan_text.specs.declared.answer.RowAnswer.TheVariants.{Spans, Unresolved, Full, Decays}
+use Rattle.sgp4_model.specs.Records.{AnswerRecord, spans, unresolved, full, decays}
 use Rattle.plan_text.specs.Plan.{RowRecord, SatelliteRecord, StandingRecord, refused, planned}
 
 -- `UNRESOLVED <from> <to>`
@@ -14,19 +13,19 @@ unresolved_words start from to =
     codes "UNRESOLVED " ++ tick_text start from ++ codes " " ++ tick_text start to
 
 -- the words of an answer
-unfoldable pub answer_words : ℤ → RowAnswer → List ℕ
-answer_words start (Spans count) = codes "SPANS " ++ decimal count
-answer_words start (Unresolved from to) = unresolved_words start from to
-answer_words start (Full at) = codes "FULL " ++ tick_text start at
-answer_words start (Decays at) = codes "DECAYS " ++ tick_text start at
+unfoldable pub answer_words : ℤ → AnswerRecord → List ℕ
+answer_words start (spans count) = codes "SPANS " ++ decimal count
+answer_words start (unresolved from to) = unresolved_words start from to
+answer_words start (full at) = codes "FULL " ++ tick_text start at
+answer_words start (decays at) = codes "DECAYS " ++ tick_text start at
 
 -- `LIT <number> <answer>`
-unfoldable pub lit_line : ℤ → ℕ → RowAnswer → List ℕ
+unfoldable pub lit_line : ℤ → ℕ → AnswerRecord → List ℕ
 lit_line start number answer =
     codes "LIT " ++ decimal number ++ codes " " ++ answer_words start answer ++ codes "\n"
 
 -- `PAIR <number> <index> <answer>`
-unfoldable pub pair_line : ℤ → ℕ → ℕ → RowAnswer → List ℕ
+unfoldable pub pair_line : ℤ → ℕ → ℕ → AnswerRecord → List ℕ
 pair_line start number index answer =
     codes "PAIR " ++ decimal number ++ codes " " ++ decimal index ++ codes " "
     ++ answer_words start answer ++ codes "\n"
@@ -49,11 +48,11 @@ span_lines letter start [] = []
 span_lines letter start (span ∷ rest) = span_line (letter span.mark) start span ++ span_lines letter start rest
 
 -- the lines that follow an answer
-abbrev pub lines_after : (Mark → List ℕ) → ℤ → RowAnswer → List Span → List ℕ
-lines_after letter start (Spans count) list = span_lines letter start list
-lines_after letter start (Unresolved from to) list = []
-lines_after letter start (Full at) list = []
-lines_after letter start (Decays at) list = []
+abbrev pub lines_after : (Mark → List ℕ) → ℤ → AnswerRecord → List Span → List ℕ
+lines_after letter start (spans count) list = span_lines letter start list
+lines_after letter start (unresolved from to) list = []
+lines_after letter start (full at) list = []
+lines_after letter start (decays at) list = []
 
 -- the row of a satellite's light
 abbrev pub lit_block : ℤ → ℕ → RowRecord → List ℕ

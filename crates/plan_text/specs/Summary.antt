@@ -4,8 +4,7 @@ use Rattle.std.specs.List.{filter, flat_map, sum_by, count_by}
 use Rattle.sgp4_model.specs.declared.span.Mark.{Mark}
 use Rattle.sgp4_model.specs.declared.span.Mark.TheVariants.{Yes, No, Undecided}
 use Rattle.sgp4_model.specs.declared.span.Span.{Span}
-use Rattle.plan_text.specs.declared.answer.RowAnswer.{RowAnswer}
-use Rattle.plan_text.specs.declared.answer.RowAnswer.TheVariants.{Spans, Unresolved, Full, Decays}
+use Rattle.sgp4_model.specs.Records.{AnswerRecord, spans, unresolved, full, decays}
 use Rattle.plan_text.specs.declared.summary.Summary.{Summary}
 use Rattle.plan_text.specs.Plan.{RowRecord, SatelliteRecord, StandingRecord, PlanRecord, refused, planned, pairs_of}
 use Rattle.plan_text.specs.Timetable.{is_visible}
@@ -28,23 +27,23 @@ is_undecided No = false
 is_undecided Undecided = true
 
 -- an answer of each kind that is not spans
-abbrev pub is_unresolved : RowAnswer → Bool
-is_unresolved (Spans count) = false
-is_unresolved (Unresolved from to) = true
-is_unresolved (Full at) = false
-is_unresolved (Decays at) = false
+abbrev pub is_unresolved : AnswerRecord → Bool
+is_unresolved (spans count) = false
+is_unresolved (unresolved from to) = true
+is_unresolved (full at) = false
+is_unresolved (decays at) = false
 
-abbrev pub is_full : RowAnswer → Bool
-is_full (Spans count) = false
-is_full (Unresolved from to) = false
-is_full (Full at) = true
-is_full (Decays at) = false
+abbrev pub is_full : AnswerRecord → Bool
+is_full (spans count) = false
+is_full (unresolved from to) = false
+is_full (full at) = true
+is_full (decays at) = false
 
-abbrev pub is_decaying : RowAnswer → Bool
-is_decaying (Spans count) = false
-is_decaying (Unresolved from to) = false
-is_decaying (Full at) = false
-is_decaying (Decays at) = true
+abbrev pub is_decaying : AnswerRecord → Bool
+is_decaying (spans count) = false
+is_decaying (unresolved from to) = false
+is_decaying (full at) = false
+is_decaying (decays at) = true
 
 -- all pair rows of a plan
 abbrev pub pair_rows : PlanRecord → List RowRecord
@@ -59,7 +58,7 @@ abbrev pub ticks_of : List Span → ℕ
 ticks_of list = sum_by (λ (span : Span). span.to - span.from) list
 
 -- how many pair rows have such an answer
-abbrev pub pairs_that : (RowAnswer → Bool) → PlanRecord → ℕ
+abbrev pub pairs_that : (AnswerRecord → Bool) → PlanRecord → ℕ
 pairs_that test plan = count_by (λ (row : RowRecord). test row.answer) (pair_rows plan)
 
 -- the counts of a plan in which so many verdicts were asked for

@@ -1,19 +1,19 @@
 //! The lines of rows: what a satellite's light and each station's sight of it are.
 ghost use Rattle.std.specs.Prelude.{◌≡◌, ◌≤◌, ◌+◌, ◌++◌, length};
 ghost use Rattle.pass_text.specs.DayLayout.{span_line};
+ghost use Rattle.span_bisect.specs.Answer.{answer_record};
 ghost use Rattle.plan_text.specs.Plan.{AnswerIsWithin, IsWithin};
 ghost use Rattle.plan_text.specs.RowLines.{answer_words, lit_letter, lit_line, pair_letter, pair_line, unresolved_words};
 
-use crate::answer::RowAnswer;
 use elements::Window;
 use pass_text::Line;
-use sgp4_model::{Mark, Span};
+use span_bisect::{Mark, Span, TrackAnswer};
 
 /// `LIT <number> <answer>`
 #[tactic(auto, unfolding(crate::specs::RowLines::lit_line))]
-pub fn lit_line(window: Window, number: u32, answer: RowAnswer) -> Line
-    requires { AnswerIsWithin window.ticks answer }
-    ensures { result ≡ lit_line window.start number answer }
+pub fn lit_line(window: Window, number: u32, answer: &TrackAnswer) -> Line
+    requires { AnswerIsWithin window.ticks (answer_record answer.now) }
+    ensures { result ≡ lit_line window.start number (answer_record answer.now) }
 {
     let mut line = Line::new();
     line.text(b"LIT ");
@@ -26,9 +26,9 @@ pub fn lit_line(window: Window, number: u32, answer: RowAnswer) -> Line
 
 /// `PAIR <number> <index> <answer>`
 #[tactic(auto, unfolding(crate::specs::RowLines::pair_line))]
-pub fn pair_line(window: Window, number: u32, index: u32, answer: RowAnswer) -> Line
-    requires { AnswerIsWithin window.ticks answer }
-    ensures { result ≡ pair_line window.start number index answer }
+pub fn pair_line(window: Window, number: u32, index: u32, answer: &TrackAnswer) -> Line
+    requires { AnswerIsWithin window.ticks (answer_record answer.now) }
+    ensures { result ≡ pair_line window.start number index (answer_record answer.now) }
 {
     let mut line = Line::new();
     line.text(b"PAIR ");
@@ -43,25 +43,25 @@ pub fn pair_line(window: Window, number: u32, index: u32, answer: RowAnswer) -> 
 
 /// Appends an answer.
 #[tactic(auto, unfolding(crate::specs::RowLines::answer_words))]
-fn answer_words(line: &mut Line, window: Window, answer: RowAnswer)
+fn answer_words(line: &mut Line, window: Window, answer: &TrackAnswer)
     requires room { length line.old ≤ 100 }
-    requires within { AnswerIsWithin window.ticks answer }
-    ensures text { line.new ≡ line.old ++ answer_words window.start answer }
+    requires within { AnswerIsWithin window.ticks (answer_record answer.now) }
+    ensures text { line.new ≡ line.old ++ answer_words window.start (answer_record answer.now) }
     ensures len { length line.new ≤ length line.old + 62 }
 {
     match answer {
-        RowAnswer::Spans { count } => {
+        TrackAnswer::Spans(track) => {
             line.text(b"SPANS ");
-            line.number(count as u64);
+            line.number(track.count() as u64);
         }
-        RowAnswer::Unresolved { from, to } => unresolved_words(line, window, from, to),
-        RowAnswer::Full { at } => {
+        TrackAnswer::Unresolved { from, to } => unresolved_words(line, window, *from, *to),
+        TrackAnswer::Full { at } => {
             line.text(b"FULL ");
-            line.instant(window.instant_at(at), 4);
+            line.instant(window.instant_at(*at), 4);
         }
-        RowAnswer::Decays { at } => {
+        TrackAnswer::Decays { at } => {
             line.text(b"DECAYS ");
-            line.instant(window.instant_at(at), 4);
+            line.instant(window.instant_at(*at), 4);
         }
     }
 }

@@ -4,8 +4,7 @@ use Rattle.std.proofs.lemmas.List.Elements.{All-cons}
 use Rattle.elements.specs.Window.{IsWindow}
 use Rattle.sgp4_model.specs.declared.span.Mark.{Mark}
 use Rattle.sgp4_model.specs.declared.span.Mark.TheVariants.{Yes, No, Undecided}
-use Rattle.plan_text.specs.declared.answer.RowAnswer.{RowAnswer}
-use Rattle.plan_text.specs.declared.answer.RowAnswer.TheVariants.{Unresolved, Decays}
+use Rattle.sgp4_model.specs.Records.{AnswerRecord, unresolved, decays}
 use Rattle.jiff_core.proofs.SignedLemmas.{signed_arith}
 use Rattle.civil_time.specs.InstantText.{instant_text, date_text, clock_text, fixed_digits}
 use Rattle.civil_time.specs.CivilDate.{date_of_day, date_from_year, date_from_month}
@@ -15,7 +14,7 @@ use Rattle.plan_text.specs.GridLayout.{count_line, spans_line}
 use Rattle.plan_text.specs.HeadLines.{offset_line, station_line}
 use Rattle.plan_text.specs.Plan.{AnswerIsWithin, IsCounted, IsRow, IsSatellite, IsWithin}
 use Rattle.plan_text.specs.RowLines.{unresolved_words, answer_words, lit_line, pair_line}
-use Rattle.plan_text.specs.SatLine.{sat_line}
+use Rattle.pass_text.specs.SatLine.{sat_line}
 use Rattle.plan_text.specs.TableLines.{table_line, pass_line}
 use Rattle.plan_text.specs.Timetable.{timetable}
 use Rattle.std.specs.Fmt.{digits}
@@ -67,7 +66,7 @@ whole_row : (mark : Mark) → IsRow 36_000_000 (row 1 (span mark 0 36_000_000 �
 whole_row mark = record { answer = tt; counted = refl; most = omega arith; spans = one (IsWithin 36_000_000) (span mark 0 36_000_000) (within mark 0 36_000_000 (omega arith) (omega arith)) }
 
 -- a row without spans
-empty_row : (answer : RowAnswer) → AnswerIsWithin 36_000_000 answer → IsCounted answer [] → IsRow 36_000_000 (record { answer = answer; list = [] })
+empty_row : (answer : AnswerRecord) → AnswerIsWithin 36_000_000 answer → IsCounted answer [] → IsRow 36_000_000 (record { answer = answer; list = [] })
 empty_row answer h k = record { answer = h; counted = k; most = omega arith; spans = none (IsWithin 36_000_000) }
 
 -- the satellite that decays
@@ -75,7 +74,7 @@ first_is : IsSatellite 36_000_000 2 first_satellite
 first_is = record {
   number = omega arith;
   name = letters_are;
-  rows = (empty_row (Decays 5) (omega arith) refl, All-cons (IsRow 36_000_000) (row 1 (span Yes 0 36_000_000 ∷ [])) (row 1 (span No 0 36_000_000 ∷ []) ∷ []) (whole_row Yes) (one (IsRow 36_000_000) (row 1 (span No 0 36_000_000 ∷ [])) (whole_row No)), refl);
+  rows = (empty_row (decays 5) (omega arith) refl, All-cons (IsRow 36_000_000) (row 1 (span Yes 0 36_000_000 ∷ [])) (row 1 (span No 0 36_000_000 ∷ []) ∷ []) (whole_row Yes) (one (IsRow 36_000_000) (row 1 (span No 0 36_000_000 ∷ [])) (whole_row No)), refl);
 }
 
 -- a row of light
@@ -101,7 +100,7 @@ second_is : IsSatellite 36_000_000 2 second_satellite
 second_is = record {
   number = omega arith;
   name = dash_is;
-  rows = (lit_is, All-cons (IsRow 36_000_000) (row 3 (span Yes 0 1 ∷ span Undecided 1 10_001 ∷ span Yes 10_001 36_000_000 ∷ [])) (record { answer = Unresolved 3 10_004; list = [] } ∷ []) three_are (one (IsRow 36_000_000) (record { answer = Unresolved 3 10_004; list = [] }) (empty_row (Unresolved 3 10_004) (omega arith, omega arith) refl)), refl);
+  rows = (lit_is, All-cons (IsRow 36_000_000) (row 3 (span Yes 0 1 ∷ span Undecided 1 10_001 ∷ span Yes 10_001 36_000_000 ∷ [])) (record { answer = unresolved 3 10_004; list = [] } ∷ []) three_are (one (IsRow 36_000_000) (record { answer = unresolved 3 10_004; list = [] }) (empty_row (unresolved 3 10_004) (omega arith, omega arith) refl)), refl);
 }
 
 -- a short name

@@ -4,8 +4,8 @@ use Rattle.elements.specs.Window.{WindowRecord}
 use Rattle.sgp4_model.specs.declared.span.Mark.{Mark}
 use Rattle.sgp4_model.specs.declared.span.Mark.TheVariants.{Yes, No, Undecided}
 use Rattle.sgp4_model.specs.declared.span.Span.{Span}
-use Rattle.plan_text.specs.declared.answer.RowAnswer.TheVariants.{Spans, Unresolved, Decays}
-use Rattle.plan_text.specs.declared.fate.Fate.TheVariants.{Deep}
+use Rattle.sgp4_model.specs.Records.{spans, unresolved, decays}
+use Rattle.sgp4_shape.specs.declared.fault.SatFault.TheVariants.{Deep}
 use Rattle.plan_text.specs.GridLayout.{grid_layout}
 use Rattle.plan_text.specs.Plan.{RowRecord, SatelliteRecord, PlanRecord, refused, planned, IsPlan}
 use Rattle.plan_text.specs.PlanLayout.{plan_layout}
@@ -34,14 +34,14 @@ span mark from to = record { mark = mark; from = from; to = to }
 
 -- a row that spans tile
 abbrev pub row : ℕ → List Span → RowRecord
-row count list = record { answer = Spans count; list = list }
+row count list = record { answer = spans count; list = list }
 
 -- a row that ends in decay, a visible row and a hidden one
 abbrev pub first_satellite : SatelliteRecord
 first_satellite = record {
   number = 7;
   name = codes "A B";
-  standing = planned (record { answer = Decays 5; list = [] }) (row 1 (span Yes 0 36_000_000 ∷ []) ∷ row 1 (span No 0 36_000_000 ∷ []) ∷ []);
+  standing = planned (record { answer = decays 5; list = [] }) (row 1 (span Yes 0 36_000_000 ∷ []) ∷ row 1 (span No 0 36_000_000 ∷ []) ∷ []);
 }
 
 -- sunlit and then dark, a row with an undecided span, and a row that is unresolved
@@ -49,7 +49,7 @@ abbrev pub second_satellite : SatelliteRecord
 second_satellite = record {
   number = 5;
   name = codes "-";
-  standing = planned (row 2 (span Yes 0 9 ∷ span No 9 36_000_000 ∷ [])) (row 3 (span Yes 0 1 ∷ span Undecided 1 10_001 ∷ span Yes 10_001 36_000_000 ∷ []) ∷ record { answer = Unresolved 3 10_004; list = [] } ∷ []);
+  standing = planned (row 2 (span Yes 0 9 ∷ span No 9 36_000_000 ∷ [])) (row 3 (span Yes 0 1 ∷ span Undecided 1 10_001 ∷ span Yes 10_001 36_000_000 ∷ []) ∷ record { answer = unresolved 3 10_004; list = [] } ∷ []);
 }
 
 -- two stations, and these satellites, whose contacts at the first station mix

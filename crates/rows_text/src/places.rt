@@ -1,6 +1,6 @@
 //! The lines of a satellite's place at an instant.
 use elements::Instant;
-use pass_text::{PASSLOCATE, UNPLACED, at_line, edge_line, missing_line};
+use pass_text::{DECAYED, PASSLOCATE, at_line, edge_line, missing_line};
 
 #[test]
 fn an_instant_has_nine_decimals(rt: HostRuntime) {
@@ -65,5 +65,5 @@ fn bounds_are_printed_with_their_signs(rt: HostRuntime) {
 #[test]
 fn a_place_has_fixed_lines(rt: HostRuntime) {
     assert!(rt; PASSLOCATE == b"PASSLOCATE 1\n".as_slice(), "the heading");
-    assert!(rt; UNPLACED == b"UNPLACED\n".as_slice(), "no bounds");
+    assert!(rt; DECAYED == b"DECAYED\n".as_slice(), "no bounds");
 }

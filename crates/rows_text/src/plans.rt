@@ -4,11 +4,12 @@ ghost use Rattle.std.specs.Prelude.{◌≡◌, pos};
 use elements::{Instant, Window};
 use pass_text::window_line;
 use plan_text::{
-    Contact, Fate, PASSPLAN, RowAnswer, lit_line, lit_span_line, offset_line, pair_line,
-    pair_span_line, pass_line, sat_line, station_line, table_line,
+    Contact, PASSPLAN, lit_line, lit_span_line, offset_line, pair_line, pair_span_line, pass_line,
+    sat_line, station_line, table_line,
 };
-use sgp4_model::{Mark, Span};
 use sgp4_shape::SatFault;
+use span_bisect::{Mark, Span, SpanPool, TrackAnswer};
+use std::test::Fail;
 
 /// 2000-06-27T00:00:00Z, and one hour.
 fn an_hour() -> Window
@@ -68,15 +69,21 @@ fn stations_are_printed_by_their_names(rt: HostRuntime) {
 
 #[test]
 fn satellites_of_a_plan_have_their_fates(rt: HostRuntime) {
-    let rows: [(Option<Fate>, &[u8]); 8] = [
+    let rows: [(Option<SatFault>, &[u8]); 8] = [
         (None, b"SAT 90001 OK ISS (ZARYA)\n"),
-        (Some(Fate::Eccentric), b"SAT 90001 ECCENTRIC ISS (ZARYA)\n"),
-        (Some(Fate::Inclined), b"SAT 90001 INCLINED ISS (ZARYA)\n"),
-        (Some(Fate::Drag), b"SAT 90001 DRAG ISS (ZARYA)\n"),
-        (Some(Fate::Deep), b"SAT 90001 DEEP ISS (ZARYA)\n"),
-        (Some(Fate::Low), b"SAT 90001 LOW ISS (ZARYA)\n"),
-        (Some(Fate::Edge), b"SAT 90001 EDGE ISS (ZARYA)\n"),
-        (Some(Fate::Far), b"SAT 90001 FAR ISS (ZARYA)\n"),
+        (
+            Some(SatFault::Eccentric),
+            b"SAT 90001 ECCENTRIC ISS (ZARYA)\n",
+        ),
+        (
+            Some(SatFault::Inclined),
+            b"SAT 90001 INCLINED ISS (ZARYA)\n",
+        ),
+        (Some(SatFault::Drag), b"SAT 90001 DRAG ISS (ZARYA)\n"),
+        (Some(SatFault::Deep), b"SAT 90001 DEEP ISS (ZARYA)\n"),
+        (Some(SatFault::Low), b"SAT 90001 LOW ISS (ZARYA)\n"),
+        (Some(SatFault::Edge), b"SAT 90001 EDGE ISS (ZARYA)\n"),
+        (Some(SatFault::Far), b"SAT 90001 FAR ISS (ZARYA)\n"),
     ];
     for (fate, printed) in &rows {
         let line = sat_line(90001, *fate, b"ISS (ZARYA)");
@@ -85,75 +92,60 @@ fn satellites_of_a_plan_have_their_fates(rt: HostRuntime) {
 }
 
 #[test]
-fn refused_sets_have_their_fates(rt: HostRuntime) {
-    let rows = [
-        (SatFault::Eccentric, Fate::Eccentric),
-        (SatFault::Inclined, Fate::Inclined),
-        (SatFault::Drag, Fate::Drag),
-        (SatFault::Deep, Fate::Deep),
-        (SatFault::Low, Fate::Low),
-        (SatFault::Far, Fate::Far),
-    ];
-    for (fault, fate) in &rows {
-        assert!(rt; Fate::of(*fault) == *fate, "{fault:?}");
-    }
-}
-
-#[test]
 fn rows_are_printed_with_their_answers(rt: HostRuntime) {
     let window = an_hour();
+    let stretch = TrackAnswer::Unresolved {
+        from: 1,
+        to: 10_002,
+    };
+    let full = TrackAnswer::Full { at: 35_999_999 };
+    let decays = TrackAnswer::Decays { at: 0 };
+    let last = TrackAnswer::Decays { at: 36_000_000 };
     let rows = [
         (
-            lit_line(window, 90001, RowAnswer::Spans { count: 1 }),
-            "LIT 90001 SPANS 1\n",
-        ),
-        (
-            lit_line(
-                window,
-                5,
-                RowAnswer::Unresolved {
-                    from: 1,
-                    to: 10_002,
-                },
-            ),
+            lit_line(window, 5, &stretch),
             "LIT 5 UNRESOLVED 2000-06-27T00:00:00.0001Z 2000-06-27T00:00:01.0002Z\n",
         ),
         (
-            lit_line(window, 5, RowAnswer::Full { at: 35_999_999 }),
+            lit_line(window, 5, &full),
             "LIT 5 FULL 2000-06-27T00:59:59.9999Z\n",
         ),
         (
-            lit_line(window, 90001, RowAnswer::Decays { at: 0 }),
+            lit_line(window, 90001, &decays),
             "LIT 90001 DECAYS 2000-06-27T00:00:00.0000Z\n",
         ),
         (
-            pair_line(window, 90001, 1, RowAnswer::Spans { count: 1_048_576 }),
-            "PAIR 90001 1 SPANS 1048576\n",
+            pair_line(window, 5, 2, &stretch),
+            "PAIR 5 2 UNRESOLVED 2000-06-27T00:00:00.0001Z 2000-06-27T00:00:01.0002Z\n",
         ),
         (
-            pair_line(
-                window,
-                5,
-                2,
-                RowAnswer::Unresolved {
-                    from: 0,
-                    to: 10_001,
-                },
-            ),
-            "PAIR 5 2 UNRESOLVED 2000-06-27T00:00:00.0000Z 2000-06-27T00:00:01.0001Z\n",
+            pair_line(window, 5, 64, &full),
+            "PAIR 5 64 FULL 2000-06-27T00:59:59.9999Z\n",
         ),
         (
-            pair_line(window, 5, 64, RowAnswer::Full { at: 600_000 }),
-            "PAIR 5 64 FULL 2000-06-27T00:01:00.0000Z\n",
-        ),
-        (
-            pair_line(window, 90001, 1, RowAnswer::Decays { at: 36_000_000 }),
+            pair_line(window, 90001, 1, &last),
             "PAIR 90001 1 DECAYS 2000-06-27T01:00:00.0000Z\n",
         ),
     ];
     for (line, printed) in &rows {
         assert!(rt; line.bytes() == printed.as_bytes(), "{printed}");
     }
+}
+
+#[test]
+fn rows_of_spans_are_printed_with_their_count(rt: HostRuntime) -> Result<(), Fail> {
+    let window = an_hour();
+    let mut pool = SpanPool::with_slots(rt.alloc(), 2)?;
+    let mut track = pool.start();
+    for (mark, from, to) in [(Mark::Yes, 0, 9), (Mark::No, 9, 36_000_000)] {
+        assert!(rt; pool.push(&mut track, Span { mark, from, to }).is_ok());
+    }
+    let answer = TrackAnswer::Spans(track);
+    assert!(rt; lit_line(window, 90001, &answer).bytes() == b"LIT 90001 SPANS 2\n".as_slice());
+    assert!(rt;
+        pair_line(window, 90001, 64, &answer).bytes() == b"PAIR 90001 64 SPANS 2\n".as_slice()
+    );
+    Ok(())
 }
 
 #[test]
@@ -221,7 +213,7 @@ fn timetables_are_printed(rt: HostRuntime) {
 fn the_longest_lines_of_a_plan_have_90_bytes(rt: HostRuntime) {
     let sat = sat_line(
         4_294_967_295,
-        Some(Fate::Eccentric),
+        Some(SatFault::Eccentric),
         b"0123456789012345678901234567890123456789012345678901234567890123",
     );
     assert!(rt;
@@ -230,11 +222,11 @@ fn the_longest_lines_of_a_plan_have_90_bytes(rt: HostRuntime) {
         "the satellite"
     );
     assert_eq!(rt; sat.bytes().len(), 90, "its bytes");
-    let answer = RowAnswer::Unresolved {
+    let answer = TrackAnswer::Unresolved {
         from: 0,
         to: 600_001,
     };
-    let pair = pair_line(an_hour(), 4_294_967_295, 4_294_967_295, answer);
+    let pair = pair_line(an_hour(), 4_294_967_295, 4_294_967_295, &answer);
     assert!(rt;
         pair.bytes()
             == b"PAIR 4294967295 4294967295 UNRESOLVED 2000-06-27T00:00:00.0000Z 2000-06-27T00:01:00.0001Z\n".as_slice(),

@@ -4,7 +4,7 @@ use sgp4_shape::SatFault;
 
 #[test]
 fn satellites_are_printed_with_their_fates(rt: HostRuntime) {
-    let rows: [(u32, Option<SatFault>, &[u8], &[u8]); 9] = [
+    let rows: [(u32, Option<SatFault>, &[u8], &[u8]); 10] = [
         (25544, None, b"ISS (ZARYA)", b"SAT 25544 OK ISS (ZARYA)\n"),
         (5, None, b"-", b"SAT 5 OK -\n"),
         (
@@ -22,6 +22,7 @@ fn satellites_are_printed_with_their_fates(rt: HostRuntime) {
         (90001, Some(SatFault::Drag), b"-", b"SAT 90001 DRAG -\n"),
         (90001, Some(SatFault::Deep), b"-", b"SAT 90001 DEEP -\n"),
         (90001, Some(SatFault::Low), b"-", b"SAT 90001 LOW -\n"),
+        (90001, Some(SatFault::Edge), b"-", b"SAT 90001 EDGE -\n"),
         (90001, Some(SatFault::Far), b"-", b"SAT 90001 FAR -\n"),
         (
             4_294_967_295,

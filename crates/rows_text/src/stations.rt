@@ -1,5 +1,5 @@
 //! The lines of files that are no station file.
-use plan_text::station_fault_line;
+use pass_text::station_fault_line;
 use station_file::{StFault, StKey};
 
 #[test]

@@ -1,8 +1,9 @@
 //! The lines of files that are no station file.
 ghost use Rattle.std.specs.Prelude.{◌≡◌, ◌≤◌, length};
-ghost use Rattle.plan_text.specs.StationFaults.{index_line, key_line, station_fault_line};
+ghost use Rattle.pass_text.specs.StationFaults.{index_line, key_line, station_fault_line};
 
-use pass_text::{Line, memory_line};
+use crate::line::Line;
+use crate::refusal::{memory_line, whole};
 use station_file::{StFault, StKey};
 
 /// `error stations ..`, or `error memory`
@@ -52,15 +53,5 @@ fn index_line(kind: &[u8], index: u32) -> Line
     line.text(b" ");
     line.number(index as u64);
     line.text(b"\n");
-    line
-}
-
-/// A line that is known whole.
-fn whole(text: &[u8]) -> Line
-    requires { length text.now ≤ 320 }
-    ensures { result ≡ text.now }
-{
-    let mut line = Line::new();
-    line.text(text);
     line
 }
