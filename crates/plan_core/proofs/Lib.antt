@@ -1,0 +1,10 @@
+mod FateLemmas
+mod FillLemmas
+mod KeptLemmas
+mod ListLemmas
+mod PlanLemmas
+mod ReaderLemmas
+mod RowLemmas
+mod StepLemmas
+mod TableLemmas
+mod TrackLemmas
