@@ -2,4 +2,5 @@ pub mod CountsLemmas
 mod FolderLemmas
 pub mod Puts
 mod ReadLemmas
+mod WordLemmas
 mod WriteLemmas

@@ -7,4 +7,5 @@ pub mod Outlet
 pub mod Output
 pub mod Reading
 pub mod Supply
+pub mod Words
 pub mod Written

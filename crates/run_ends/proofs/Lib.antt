@@ -1,0 +1,4 @@
+pub mod CommandLemmas
+pub mod MappedLemmas
+pub mod OutcomeLemmas
+pub mod PrintedLemmas
