@@ -1,0 +1,3 @@
+mod InsideLemmas
+mod ResolvedLemmas
+mod SpanLemmas

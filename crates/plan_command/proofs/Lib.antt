@@ -1,0 +1,5 @@
+mod LawLemmas
+pub mod NumberedLemmas
+mod PartLemmas
+mod RowLemmas
+mod TableLemmas

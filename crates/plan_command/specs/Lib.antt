@@ -1,0 +1,7 @@
+pub mod Head
+pub mod Parts
+pub mod PlanLaws
+pub mod Planned
+pub mod Resolved
+pub mod Rows
+pub mod Tables
