@@ -1,7 +1,7 @@
-//! `passplan` prints the certified daylight of a place: `passplan day --lat=90 --lon=0 --start=.. --end=.. --res=1`.
+//! `passplan` plans satellite passes over stations, every printed span certified: `passplan plan --catalogue=.. --stations=..`.
 #![tactic(auto)]
 
-use outside_io::{FileShelf, StdSink};
+use outside_io::{FileShelf, ProcessWords, StdSink};
 use std::io;
 use std::process::ExitCode;
 use top_call::run_given;
@@ -9,5 +9,6 @@ use top_call::run_given;
 fn main(rt: HostRuntime) -> ExitCode {
     let mut shelf = FileShelf::make(&rt);
     let mut out = StdSink::make(io::writer(&rt));
-    run_given(rt.alloc(), &rt, &mut shelf, &mut out)
+    let words = ProcessWords::make(&rt);
+    run_given(rt.alloc(), &words, &mut shelf, &mut out)
 }

@@ -82,6 +82,7 @@ fn likely_spans(day: &DayResult, ticks: u64) -> Option<u32> {
 fn likely_spans_of(product: &Product) -> Option<u32> {
     match product {
         Product::Day(day) => likely_spans(day, 240 * HOUR),
+        Product::Plan(_) => None,
         Product::Shown(_) => None,
         Product::Located(_) => None,
     }

@@ -9,3 +9,5 @@ mod daylight;
 mod faults;
 #[cfg(test)]
 mod refusals;
+#[cfg(test)]
+mod sunrises;

@@ -1,2 +1,3 @@
+mod EveryCase
 mod PositionLaws
 mod SmallAnswers

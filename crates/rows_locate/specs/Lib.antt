@@ -1,2 +1,3 @@
+pub mod EveryPosition
 pub mod PositionLaws
 pub mod SmallAnswers

@@ -2,7 +2,7 @@
 use Rattle.std.specs.Prelude.{◌≡◌, ℕ, ℤ, pos, List, [], ◌∷◌, codes}
 use Rattle.exact.specs.Rational.{of_int}
 use Rattle.catalogue.specs.declared.entry.Entry.{Entry}
-use Rattle.pass_text.specs.LocateLayout.{missing, refused, unplaced}
+use Rattle.pass_text.specs.LocateLayout.{missing, refused, decayed}
 use Rattle.sat_locate.specs.Edge.{IsBetween}
 use Rattle.sat_locate.specs.Found.{IsAnswerFor, IsFoundOf, IsNarrowEdge}
 use Rattle.sgp4_shape.specs.declared.fault.SatFault.{SatFault}
@@ -16,7 +16,7 @@ pub record SmallAnswers : Type 0 where
   pub there : (set : Entry) → set.elements.number ≡ 5 → ¬ (IsFoundOf (set ∷ []) 5 (pos 7) missing)
   pub refused_none : (fault : SatFault) (name : List ℕ) → ¬ (IsFoundOf [] 5 (pos 7) (refused fault name))
   pub other_name : (set : Entry) (fault : SatFault) → set.name ≡ codes "A" → ¬ (IsFoundOf (set ∷ []) 5 (pos 7) (refused fault (codes "AB")))
-  pub unknown : (sets : List Entry) (number : ℕ) (at : ℤ) (name : List ℕ) → ¬ (IsFoundOf sets number at (unplaced name))
+  pub unknown : (sets : List Entry) (number : ℕ) (at : ℤ) (name : List ℕ) → ¬ (IsFoundOf sets number at (decayed name))
 
 -- an Earth radius is 6,378,135,000 millimetres; bounds are at most 10,000 apart
 pub record SmallEdges : Type 0 where

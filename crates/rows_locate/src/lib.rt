@@ -1,6 +1,7 @@
 //! Tests of the command `locate` of the program but its `main`, and the definitions of its answers on small cases.
 #![tactic(auto)]
 
+ghost use Rattle.rows_locate.specs.EveryPosition.{EveryPositionLiesInside};
 ghost use Rattle.rows_locate.specs.PositionLaws.{BoundsHoldPositions, FoundAsItIs};
 ghost use Rattle.rows_locate.specs.SmallAnswers.{SmallAnswers, SmallEdges};
 
@@ -33,4 +34,9 @@ pub fn bounds_hold_positions()
 /// Which satellite is found, and what is known of it.
 pub fn found_as_it_is()
     ensures { FoundAsItIs }
+{}
+
+/// Where every position of a satellite lies, whatever pi, constants, mean elements and root of Kepler's equation give it.
+pub fn every_position_lies_inside()
+    ensures { EveryPositionLiesInside }
 {}

@@ -24,7 +24,7 @@ fn is_published(found: &Found, published: &Published) -> bool {
         }
         Found::Missing => false,
         Found::Refused { .. } => false,
-        Found::Unplaced { .. } => false,
+        Found::Decayed { .. } => false,
     }
 }
 
@@ -33,6 +33,7 @@ fn is_located(product: &Product, published: &Published) -> bool {
     match product {
         Product::Located(answer) => is_published(&answer.found, published),
         Product::Day(_) => false,
+        Product::Plan(_) => false,
         Product::Shown(_) => false,
     }
 }

@@ -1,65 +1,64 @@
 -- Products, by the words that they are of.
-use Rattle.std.proofs.Common.{◌≡◌, sym, List, ℕ}
-use Rattle.std.specs.Prelude.{ℤ, Ok}
-use Rattle.decimals.specs.Decimal.{DecimalRecord}
-use Rattle.elements.specs.Window.{WindowRecord}
+use Rattle.std.proofs.Common.{◌≡◌, subst, List, ℕ, Ok}
+use Rattle.std.specs.Prelude.{Option, Some}
+use Rattle.catalogue.specs.Choice.{chosen}
 use Rattle.pass_words.specs.Words.{words_value}
-use Rattle.pass_words.specs.declared.part.Part.{Part}
+use Rattle.pass_words.specs.declared.request.Request.{Request}
 use Rattle.pass_words.specs.declared.request.Request.TheVariants as requests
-use Rattle.top_call.specs.declared.outcome.Product.TheVariants.{Day, Shown, Located}
-use Rattle.rows_runs.specs.ProductLaws.{DaylightIsCertified, LocatedSatellitesAreAnswers, ProductsAreOfTheirCommand, ShownSatellitesAreChosen}
+use Rattle.top_call.specs.Request.{IsOfRequest, IsProductOf}
+use Rattle.top_call.specs.declared.outcome.Product.{Product}
+use Rattle.top_call.specs.declared.outcome.Product.TheVariants.{Day, Plan, Shown, Located}
+use Rattle.station_file.specs.StationFile.{station_value}
+use Rattle.rows_runs.specs.ProductLaws.{DaylightIsCertified, LocatedSatellitesAreAnswers, PlansAreCertified, ProductsAreOfTheirCommand, ShownSatellitesAreChosen}
+
+-- words make one request
+one_request : (words : List (List ℕ)) (request other : Request) → words_value words ≡ Ok request → words_value words ≡ Ok other → request ≡ other
+one_request words request other e f = cc
+
+asked_of : (held : List ℕ → Option (List ℕ)) (words : List (List ℕ)) (request : Request) (product : Product) → words_value words ≡ Ok request →
+    IsProductOf held words product → IsOfRequest held words request product
+asked_of held words request product e h =
+    subst (λ r. IsOfRequest held words r product) (one_request words h.request request h.of_words e) h.asked
 
 pub products_are_of_their_command : ProductsAreOfTheirCommand
 products_are_of_their_command held words (requests.Day lat lon window) (Day day) e h = tt
-products_are_of_their_command held words (requests.Day lat lon window) (Shown entries) e h = let f = h.of_words in cc
-products_are_of_their_command held words (requests.Day lat lon window) (Located answer) e h = let f = h.of_words in cc
-products_are_of_their_command held words (requests.Show catalogue start) (Day day) e h = let f = h.of_words in cc
+products_are_of_their_command held words (requests.Day lat lon window) (Plan plan) e h = asked_of held words _ _ e h
+products_are_of_their_command held words (requests.Day lat lon window) (Shown entries) e h = asked_of held words _ _ e h
+products_are_of_their_command held words (requests.Day lat lon window) (Located answer) e h = asked_of held words _ _ e h
+products_are_of_their_command held words (requests.Plan catalogue stations window) (Day day) e h = asked_of held words _ _ e h
+products_are_of_their_command held words (requests.Plan catalogue stations window) (Plan plan) e h = tt
+products_are_of_their_command held words (requests.Plan catalogue stations window) (Shown entries) e h = asked_of held words _ _ e h
+products_are_of_their_command held words (requests.Plan catalogue stations window) (Located answer) e h = asked_of held words _ _ e h
+products_are_of_their_command held words (requests.Show catalogue start) (Day day) e h = asked_of held words _ _ e h
+products_are_of_their_command held words (requests.Show catalogue start) (Plan plan) e h = asked_of held words _ _ e h
 products_are_of_their_command held words (requests.Show catalogue start) (Shown entries) e h = tt
-products_are_of_their_command held words (requests.Show catalogue start) (Located answer) e h = let f = h.of_words in cc
-products_are_of_their_command held words (requests.Locate catalogue number at) (Day day) e h = let f = h.of_words in cc
-products_are_of_their_command held words (requests.Locate catalogue number at) (Shown entries) e h = let f = h.of_words in cc
+products_are_of_their_command held words (requests.Show catalogue start) (Located answer) e h = asked_of held words _ _ e h
+products_are_of_their_command held words (requests.Locate catalogue number at) (Day day) e h = asked_of held words _ _ e h
+products_are_of_their_command held words (requests.Locate catalogue number at) (Plan plan) e h = asked_of held words _ _ e h
+products_are_of_their_command held words (requests.Locate catalogue number at) (Shown entries) e h = asked_of held words _ _ e h
 products_are_of_their_command held words (requests.Locate catalogue number at) (Located answer) e h = tt
-
--- words make one request
-one_lat : (words : List (List ℕ)) (lat lon lat' lon' : DecimalRecord) (w w' : WindowRecord) →
-    words_value words ≡ Ok (requests.Day lat lon w) → words_value words ≡ Ok (requests.Day lat' lon' w') → lat ≡ lat'
-one_lat words lat lon lat' lon' w w' e f = cc
-
-one_lon : (words : List (List ℕ)) (lat lon lat' lon' : DecimalRecord) (w w' : WindowRecord) →
-    words_value words ≡ Ok (requests.Day lat lon w) → words_value words ≡ Ok (requests.Day lat' lon' w') → lon ≡ lon'
-one_lon words lat lon lat' lon' w w' e f = cc
-
-one_window : (words : List (List ℕ)) (lat lon lat' lon' : DecimalRecord) (w w' : WindowRecord) →
-    words_value words ≡ Ok (requests.Day lat lon w) → words_value words ≡ Ok (requests.Day lat' lon' w') → w ≡ w'
-one_window words lat lon lat' lon' w w' e f = cc
-
-one_start : (words : List (List ℕ)) (c c' : Part) (s s' : ℤ) →
-    words_value words ≡ Ok (requests.Show c s) → words_value words ≡ Ok (requests.Show c' s') → s ≡ s'
-one_start words c c' s s' e f = cc
-
-one_number : (words : List (List ℕ)) (c c' : Part) (n n' : ℕ) (a a' : ℤ) →
-    words_value words ≡ Ok (requests.Locate c n a) → words_value words ≡ Ok (requests.Locate c' n' a') → n ≡ n'
-one_number words c c' n n' a a' e f = cc
-
-one_instant : (words : List (List ℕ)) (c c' : Part) (n n' : ℕ) (a a' : ℤ) →
-    words_value words ≡ Ok (requests.Locate c n a) → words_value words ≡ Ok (requests.Locate c' n' a') → a ≡ a'
-one_instant words c c' n n' a a' e f = cc
 
 pub daylight_is_certified : DaylightIsCertified
 daylight_is_certified held words lat lon window day e h =
-    let a = one_lat words lat lon h.lat h.lon window day.window e h.of_words in
-    let b = one_lon words lat lon h.lat h.lon window day.window e h.of_words in
-    let c = one_window words lat lon h.lat h.lon window day.window e h.of_words in
-    (sym c, rw a (rw b (rw c h.certified)))
+    let is = asked_of held words (requests.Day lat lon window) (Day day) e h in (is.window_is, is.certified)
+
+pub plans_are_certified : PlansAreCertified
+plans_are_certified bytes words catalogue stations window plan e h =
+    let is = asked_of (λ name. Some (bytes name)) words (requests.Plan catalogue stations window) (Plan plan) e h in
+    record {
+      entries = is.entries;
+      places = is.places;
+      chosen_are = subst (λ b. chosen b window.start ≡ Ok is.entries) is.of_catalogue.told is.of_catalogue.gives;
+      stations_are = subst (λ b. station_value b ≡ Ok is.places) is.of_stations.told is.of_stations.gives;
+      certified = is.certified;
+    }
 
 pub shown_satellites_are_chosen : ShownSatellitesAreChosen
 shown_satellites_are_chosen bytes words catalogue start entries e h =
-    let s = one_start words catalogue h.catalogue start h.start e h.of_words in
-    rw s (rw (sym h.answer.told) h.answer.gives)
+    let is = asked_of (λ _. Some bytes) words (requests.Show catalogue start) (Shown entries) e h in
+    subst (λ b. chosen b start ≡ Ok entries) is.told is.gives
 
 pub located_satellites_are_answers : LocatedSatellitesAreAnswers
 located_satellites_are_answers bytes words catalogue number at answer e h =
-    let n = one_number words catalogue h.catalogue number h.number at h.at e h.of_words in
-    let a = one_instant words catalogue h.catalogue number h.number at h.at e h.of_words in
-    let found = h.located in
-    rw n (rw a (found.entries, rw (sym found.of_file.told) found.of_file.gives, found.answers))
+    let is = asked_of (λ _. Some bytes) words (requests.Locate catalogue number at) (Located answer) e h in
+    (is.entries, subst (λ b. chosen b at ≡ Ok is.entries) is.of_file.told is.of_file.gives, is.answers)

@@ -1,7 +1,7 @@
 -- The small cases, one by one.
-use Rattle.std.proofs.Common.{arith, ◌≡◌, ap, sym, ◌∙◌, ℕ, zero, suc, ◌+◌, ◌≤◌, List, [], ◌∷◌, length, take, Some, refl, pos, codes}
+use Rattle.std.proofs.Common.{arith, ◌≡◌, ap, subst, inl, inr, sym, ◌∙◌, ℕ, zero, suc, ◌+◌, ◌≤◌, List, [], ◌∷◌, length, take, Some, refl, pos, codes}
 use Rattle.std.proofs.lemmas.Int.{ints}
-use Rattle.std.specs.Prelude.{ℤ, Err, None, Ok}
+use Rattle.std.specs.Prelude.{ℤ, Err, None, Ok, Option}
 use Rattle.catalogue.specs.Choice.{chosen}
 use Rattle.catalogue.specs.Sets.{element_sets}
 use Rattle.catalogue.specs.TwoLineFile.{sets_of}
@@ -10,8 +10,12 @@ use Rattle.exact.proofs.Integers.{of_int_le, le_of_int}
 use Rattle.exact.specs.Rational.{of_int}
 use Rattle.pass_text.specs.Refusals.{read_line}
 use Rattle.pass_words.specs.Words.{words_value}
-use Rattle.pass_words.specs.declared.request.Request.{Request}
-use Rattle.top_call.specs.Day.{GrazesNowhereLong}
+use Rattle.run_ends.proofs.OutcomeLemmas.{came_named}
+use Rattle.run_ends.specs.Causes.{Came}
+use Rattle.run_ends.specs.Files.{IsNamed, ReadsCatalogue, ReadsStations, no_file}
+use Rattle.catalogue.specs.declared.entry.Entry.{Entry}
+use Rattle.day_command.specs.Day.{GrazesNowhereLong}
+use Rattle.top_call.specs.Request.{files_in}
 use Rattle.rows_runs.specs.SmallCauses.{EmptyFiles, SmallCauses}
 use Rattle.rows_runs.specs.SmallOutputs.{SmallProducts, SmallRefusals}
 use Rattle.rows_runs.specs.SmallResolved.{SmallResolved, grazing_end}
@@ -72,20 +76,33 @@ small_resolved = record {
   slots = refl;
 }
 
--- no word makes no request
-no_request : (request : Request) → words_value [] ≡ Ok request → ⊥
+-- no word makes no request, and names no file
+no_files : files_in [] ≡ no_file
 unfolding words_value
-no_request request e = cc
+no_files = refl
+
+none_named : (name : List ℕ) → IsNamed (files_in []) name → ⊥
+none_named name named = elim (subst (λ files. IsNamed files name) no_files named) [ inl h ↦ h.1 | inr h ↦ h ]
+
+no_catalogue : (name : List ℕ) (at : ℤ) → ReadsCatalogue (files_in []) name at → ⊥
+no_catalogue name at reads = none_named name (inl (at, reads))
+
+no_stations : (name : List ℕ) → ReadsStations (files_in []) name → ⊥
+no_stations name reads = none_named name (inr reads)
+
+none_came : (held : List ℕ → Option (List ℕ)) (name : List ℕ) → Came held (files_in []) name → ⊥
+none_came held name came = none_named name (came_named held (files_in []) name came)
 
 pub small_causes : SmallCauses
 small_causes = record {
-  unnamed = λ h. no_request h.1.request h.1.of_words;
-  unasked = λ h. no_request h.request h.of_words;
-  all_read = λ name named rose. no_request named.1.request named.1.of_words;
-  all_catalogues = λ name instant asks. absurd (no_request asks.request asks.of_words);
-  catalogue = λ h. no_request h.asks.request h.asks.of_words;
-  read = λ h. no_request h.1.1.request h.1.1.of_words;
-  long = λ h. no_request h.named.1.request h.named.1.of_words;
+  unnamed = none_named;
+  unasked = λ name reads. no_catalogue name (pos 0) reads;
+  all_read = λ name named rose. none_named name named;
+  all_held = record { catalogue = λ name at reads. absurd (no_catalogue name at reads); stations = λ name reads. absurd (no_stations name reads) };
+  catalogue = λ h. no_catalogue h.name h.instant h.reads;
+  stations_file = λ h. no_stations h.name h.reads;
+  read = λ h. none_came (λ _. None) h.0 h.1;
+  long = λ h. none_came (λ _. None) h.name h.came;
   memory = tt;
 }
 
@@ -97,11 +114,18 @@ of_nothing at = refl
 no_other : (bytes : List ℕ) (at : ℤ) → bytes ≡ [] → chosen bytes at ≡ Err TooMany → ⊥
 no_other bytes at told gives = let e = sym (ap (λ b. chosen b at) told ∙ of_nothing at) ∙ gives in cc
 
+-- it gives no satellites
+no_sets : (bytes : List ℕ) (at : ℤ) (sets : List Entry) → bytes ≡ [] → chosen bytes at ≡ Ok sets → ⊥
+no_sets bytes at sets told gives = let e = sym (ap (λ b. chosen b at) told ∙ of_nothing at) ∙ gives in cc
+
 pub empty_files : EmptyFiles
 empty_files = record {
   held = λ at. record { bytes = []; told = refl; fits = omega arith; gives = of_nothing at };
   untold = λ at h. let e = h.told in cc;
   other = λ at h. no_other h.answer.bytes at h.answer.told h.answer.gives;
   want = λ held at h. h.other refl;
-  short = λ words h. omega (arith, h.longer);
+  want_of_stations = λ held h. h.other refl;
+  short = λ files h. omega (arith, h.longer);
+  behind = λ at h. let read = h.before (codes "a") at (refl, refl) in no_sets read.1.bytes at read.0 read.1.told read.1.gives;
+  alone = λ at h. h;
 }

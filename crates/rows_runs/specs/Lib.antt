@@ -1,5 +1,6 @@
 pub mod EndLaws
 pub mod ProductLaws
+pub mod Small
 pub mod SmallCauses
 pub mod SmallCounted
 pub mod SmallOutputs

@@ -1,5 +1,5 @@
 -- What a product says where the words and the bytes of the file are known.
-use Rattle.std.specs.Prelude.{◌≡◌, ℕ, ℤ, List, Ok, Some, ⊤}
+use Rattle.std.specs.Prelude.{◌≡◌, ℕ, ℤ, pos, List, Ok, Some, ⊤}
 use Rattle.std.specs.declared.option.Option.{Option}
 use Rattle.catalogue.specs.Choice.{chosen}
 use Rattle.catalogue.specs.declared.entry.Entry.{Entry}
@@ -11,24 +11,25 @@ use Rattle.pass_words.specs.declared.request.Request.{Request}
 use Rattle.pass_words.specs.declared.request.Request.TheVariants as requests
 use Rattle.sat_locate.specs.Found.{IsAnswerFor, locate_record}
 use Rattle.sat_locate.specs.declared.found.LocAnswer.{LocAnswer}
+use Rattle.pass_words.specs.Placed.{text_at}
+use Rattle.plan_core.specs.Certificate.{IsPlanOf}
+use Rattle.plan_core.specs.State.{PlanState, plan_record}
 use Rattle.sgp4_model.specs.Certified.{IsCertified}
 use Rattle.sgp4_model.specs.DaySolution.{day_track}
-use Rattle.top_call.specs.Day.{DayRecord}
-use Rattle.top_call.specs.Outcome.{IsProductOf}
+use Rattle.day_command.specs.Day.{DayRecord}
+use Rattle.station_file.specs.Rows.{StationsRecord}
+use Rattle.station_file.specs.StationFile.{station_value}
+use Rattle.top_call.specs.Request.{IsProductOf}
 use Rattle.top_call.specs.declared.outcome.Product.{Product}
-use Rattle.top_call.specs.declared.outcome.Product.TheVariants.{Day, Shown, Located}
+use Rattle.top_call.specs.declared.outcome.Product.TheVariants.{Day, Plan, Shown, Located}
 
 -- the product is of the command that the request is of
 abbrev pub IsOfCommand : Request → Product → Type 0
 IsOfCommand (requests.Day lat lon window) (Day day) = ⊤
-IsOfCommand (requests.Day lat lon window) (Shown entries) = ⊥
-IsOfCommand (requests.Day lat lon window) (Located answer) = ⊥
-IsOfCommand (requests.Show catalogue start) (Day day) = ⊥
+IsOfCommand (requests.Plan catalogue stations window) (Plan plan) = ⊤
 IsOfCommand (requests.Show catalogue start) (Shown entries) = ⊤
-IsOfCommand (requests.Show catalogue start) (Located answer) = ⊥
-IsOfCommand (requests.Locate catalogue number at) (Day day) = ⊥
-IsOfCommand (requests.Locate catalogue number at) (Shown entries) = ⊥
 IsOfCommand (requests.Locate catalogue number at) (Located answer) = ⊤
+IsOfCommand request product = ⊥
 
 -- a product is of the command that the words give
 abbrev pub ProductsAreOfTheirCommand : Type 0
@@ -42,7 +43,22 @@ DaylightIsCertified =
     (held : List ℕ → Option (List ℕ)) (words : List (List ℕ)) (lat lon : DecimalRecord) (window : WindowRecord) (day : DayRecord) →
     words_value words ≡ Ok (requests.Day lat lon window) → IsProductOf held words (Day day) →
     (day.window ≡ window) ×
-    IsCertified (day_track (value lat) (value lon) window.start window.ticks) window.resolution 1_048_576 0 day.answer day.list
+    IsCertified (day_track (value lat) (value lon) window.start (pos 0) window.ticks) window.resolution 1_048_576 0 day.answer day.list
+
+-- a plan is of the chosen satellites of the one file's bytes, for the start of the window, of the stations of the other file's
+-- bytes, and of the window of the words
+pub record IsPlannedBy (satellites stations : List ℕ) (window : WindowRecord) (plan : PlanState) : Type 0 where
+  pub entries : List Entry
+  pub places : StationsRecord
+  pub chosen_are : chosen satellites window.start ≡ Ok entries
+  pub stations_are : station_value stations ≡ Ok places
+  pub certified : IsPlanOf 1_048_576 entries (record { stations = places; window = window }) (plan_record plan)
+
+abbrev pub PlansAreCertified : Type 0
+PlansAreCertified =
+    (bytes : List ℕ → List ℕ) (words : List (List ℕ)) (catalogue stations : Part) (window : WindowRecord) (plan : PlanState) →
+    words_value words ≡ Ok (requests.Plan catalogue stations window) → IsProductOf (λ name. Some (bytes name)) words (Plan plan) →
+    IsPlannedBy (bytes (text_at words catalogue)) (bytes (text_at words stations)) window plan
 
 -- shown satellites are the chosen ones of the file's bytes, for the start of the words
 abbrev pub ShownSatellitesAreChosen : Type 0

@@ -3,7 +3,7 @@ use Rattle.std.specs.Prelude.{◌≡◌, ◌^◌, ⊤}
 use Rattle.sgp4_model.specs.Certified.{TrackRecord}
 use Rattle.sgp4_model.specs.Records.{spans, unresolved, full, decays}
 use Rattle.sgp4_model.specs.Time.{IsWithin}
-use Rattle.top_call.specs.Day.{GrazesNowhereLong, IsResolved, slot_limit}
+use Rattle.day_command.specs.Day.{GrazesNowhereLong, IsResolved, slot_limit}
 
 -- seven ticks, of which the last two graze
 abbrev pub grazing_end : TrackRecord

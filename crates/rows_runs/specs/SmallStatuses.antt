@@ -3,11 +3,12 @@ use Rattle.std.specs.Prelude.{◌≡◌, [], codes, pos}
 use Rattle.catalogue.specs.declared.fault.CatFault.TheVariants.{Empty}
 use Rattle.pass_words.specs.declared.fault.UsageFault.TheVariants.{NoCommand}
 use Rattle.pass_words.specs.declared.fault.WindowFault.TheVariants.{Order}
-use Rattle.sat_locate.specs.declared.found.Found.TheVariants.{Missing, Refused, Inside, Unplaced}
+use Rattle.sat_locate.specs.declared.found.Found.TheVariants.{Missing, Refused, Inside, Decayed}
 use Rattle.sgp4_model.specs.Records.{AnswerRecord, spans, unresolved, full, decays}
 use Rattle.sgp4_shape.specs.declared.fault.SatFault.TheVariants.{Far}
-use Rattle.top_call.specs.Status.{status_of}
-use Rattle.top_call.specs.declared.outcome.Outcome.TheVariants.{Done, Usage, BadWindow, BadCatalogue, ReadFault, TooLong, WriteFault, OutOfMemory}
+use Rattle.station_file.specs.declared.fault.StFault.TheVariants.{Twice}
+use Rattle.top_call.specs.Outcome.{status_of}
+use Rattle.top_call.specs.declared.outcome.Outcome.TheVariants.{Done, Usage, BadWindow, BadCatalogue, BadStations, ReadFault, TooLong, WriteFault, OutOfMemory}
 use Rattle.top_call.specs.declared.outcome.Product.{Product}
 use Rattle.top_call.specs.declared.outcome.Product.TheVariants.{Day, Shown, Located}
 
@@ -30,10 +31,11 @@ pub record SmallStatuses : Type 0 where
       }))) ≡ 0
   pub missing : status_of (Done (Located (record { at = pos 0; number = 5; found = Missing }))) ≡ 1
   pub refused : status_of (Done (Located (record { at = pos 0; number = 5; found = Refused Far (codes "A") }))) ≡ 1
-  pub unplaced : status_of (Done (Located (record { at = pos 0; number = 5; found = Unplaced (codes "A") }))) ≡ 1
+  pub decayed : status_of (Done (Located (record { at = pos 0; number = 5; found = Decayed (codes "A") }))) ≡ 1
   pub usage : status_of (Usage NoCommand) ≡ 2
   pub window : status_of (BadWindow Order) ≡ 3
   pub catalogue : status_of (BadCatalogue Empty) ≡ 4
+  pub stations : status_of (BadStations (Twice 2)) ≡ 5
   pub read : status_of ReadFault ≡ 6
   pub long : status_of TooLong ≡ 7
   pub cut : status_of (WriteFault (Shown [])) ≡ 8

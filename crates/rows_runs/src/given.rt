@@ -1,6 +1,6 @@
 use crate::calls::words_of;
 use elements::Text;
-use outside_io::{MemoryShelf, MemorySink};
+use outside_io::{MemoryShelf, MemorySink, MemoryWords, ProcessWords};
 use std::alloc::{AllocError, Global};
 use std::env::FillError;
 use std::process::{Abort, ExitCode};
@@ -40,7 +40,7 @@ impl Env for Arguments {
 
 /// What a program of these arguments writes, and what it ends with.
 fn ended(alloc: Global, words: Vec<Text>, failing: u64) -> Result<(MemorySink, ExitCode), Fail> {
-    let arguments = Arguments { words };
+    let arguments = ProcessWords::make(Arguments { words });
     let mut shelf = MemoryShelf::make(alloc)?;
     let mut out = MemorySink::make(alloc, 1000)?;
     out.fail_at(failing)?;
@@ -138,4 +138,42 @@ fn long_words_are_read_to_their_end(rt: HostRuntime) -> Result<(), Fail> {
     reads(513, &rt)?;
     reads(1025, &rt)?;
     reads(100_000, &rt)
+}
+
+/// The words of a line, told by their source, write this and end with this status.
+fn told(
+    line: &[u8],
+    wanted: &[u8],
+    status: u8,
+    rt: &(impl Abort + AllocGlobal),
+) -> Result<(), Fail> {
+    let mut words = MemoryWords::make(rt.alloc());
+    for word in line.split(|byte| *byte == b' ') {
+        words.add(word)?;
+    }
+    let mut shelf = MemoryShelf::make(rt.alloc())?;
+    let mut out = MemorySink::make(rt.alloc(), 1000)?;
+    let code = run_given(rt.alloc(), &words, &mut shelf, &mut out);
+    assert_eq!(rt; out.written(), wanted);
+    assert_eq!(rt; code, ExitCode::from(status));
+    Ok(())
+}
+
+#[test]
+fn told_words_are_read(rt: HostRuntime) -> Result<(), Fail> {
+    told(b"day", b"error usage missing lat\n", 2, &rt)?;
+    told(b" day", b"error usage command\n", 2, &rt)?;
+    told(b"day --lat=\xff", b"error usage word 2\n", 2, &rt)?;
+    told(
+        b"locate --catalogue=a --number=5 --at=x",
+        b"error window shape\n",
+        3,
+        &rt,
+    )?;
+    told(
+        b"show --catalogue=a --start=2000-06-28T00:00:00Z",
+        b"error read\n",
+        6,
+        &rt,
+    )
 }

@@ -2,7 +2,7 @@
 #![tactic(auto)]
 
 ghost use Rattle.rows_runs.specs.EndLaws.{StatusesTell};
-ghost use Rattle.rows_runs.specs.ProductLaws.{DaylightIsCertified, LocatedSatellitesAreAnswers, ProductsAreOfTheirCommand, ShownSatellitesAreChosen};
+ghost use Rattle.rows_runs.specs.ProductLaws.{DaylightIsCertified, LocatedSatellitesAreAnswers, PlansAreCertified, ProductsAreOfTheirCommand, ShownSatellitesAreChosen};
 ghost use Rattle.rows_runs.specs.SmallCauses.{EmptyFiles, SmallCauses};
 ghost use Rattle.rows_runs.specs.SmallCounted.{SmallCounted};
 ghost use Rattle.rows_runs.specs.SmallOutputs.{SmallProducts, SmallRefusals};
@@ -54,6 +54,11 @@ pub fn empty_files()
 /// A product is of the command that the words give.
 pub fn products_are_of_their_command()
     ensures { ProductsAreOfTheirCommand }
+{}
+
+/// A plan has the window of the words, and is certified for the satellites and the stations of their files.
+pub fn plans_are_certified()
+    ensures { PlansAreCertified }
 {}
 
 /// Daylight has the window of the words, and is certified for their place.

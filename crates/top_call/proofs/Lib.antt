@@ -1,7 +1,4 @@
-mod EndedLemmas
-mod FileLemmas
-mod InsideLemmas
-mod PrintedLemmas
+mod GivenLemmas
+mod RefusedLemmas
 mod RequestLemmas
-mod SetLineLemmas
-mod SpanLemmas
+mod RunLemmas

@@ -1,49 +1,69 @@
--- What a product of a request says of the words that make the request.
-use Rattle.std.proofs.Common.{◌≡◌, ◌≢◌, ℕ, ◌≤◌, List, Option, sym, subst, ap, ◌∙◌}
-use Rattle.std.specs.Prelude.{Ok}
-use Rattle.pass_words.specs.Words.{words_value}
+-- The commands of the requests: one lemma a command.
+use Rattle.std.proofs.Common.{◌≡◌, ◌∙◌, ℕ, List, ap, subst, refl, inl}
+use Rattle.std.specs.Prelude.{ℤ}
+use Rattle.catalogue.specs.declared.entry.Entry.{Entry}
+use Rattle.day_command.specs.Day.{DayRecord, IsDayAt, day, day_text}
+use Rattle.decimals.specs.Decimal.{DecimalRecord}
+use Rattle.elements.specs.Window.{WindowRecord}
+use Rattle.locate_command.specs.Located.{IsLocatedAt, locate}
+use Rattle.outside_io.specs.declared.shelf.Shelf.{Ghosts as Shelf}
+use Rattle.outside_io.specs.declared.sink.Sink.{Ghosts as Sink}
+use Rattle.pass_words.specs.Placed.{text_at}
+use Rattle.pass_words.specs.declared.part.Part.{Part}
 use Rattle.pass_words.specs.declared.request.Request.{Request}
 use Rattle.pass_words.specs.declared.request.Request.TheVariants as requests
-use Rattle.exact.specs.Rational.{ℚ}
-use Rattle.sgp4_model.specs.Certified.{IsCertified, TrackRecord}
-use Rattle.sgp4_model.specs.Records.{AnswerRecord, spans, unresolved, full, decays}
-use Rattle.sgp4_model.specs.Time.{Throughout}
-use Rattle.sgp4_model.specs.declared.span.Span.{Span}
-use Rattle.top_call.specs.Day.{GrazesNowhereLong, IsResolved}
-use Rattle.top_call.specs.Outcome.{IsOfRequest, IsProductOf}
+use Rattle.plan_command.specs.Planned.{IsPlannedAt, plan_of}
+use Rattle.plan_core.specs.State.{PlanState, plan_record}
+use Rattle.run_ends.proofs.CommandLemmas.{nothing_loaded, run_behind}
+use Rattle.run_ends.proofs.MappedLemmas.{mapped_run}
+use Rattle.run_ends.specs.Counted.{AreAllowed}
+use Rattle.run_ends.specs.Endings.{IsForMemory, WithProduct, ending_of}
+use Rattle.run_ends.specs.Files.{catalogue_alone, catalogue_and_stations}
+use Rattle.run_ends.specs.Printed.{IsWritten}
+use Rattle.run_ends.specs.Runs.{IsRunOf}
+use Rattle.run_ends.specs.declared.ending.Ending.{Ending}
+use Rattle.sat_locate.specs.declared.found.LocAnswer.{LocAnswer}
+use Rattle.show_command.specs.Shown.{IsShownAt, show}
+use Rattle.top_call.specs.Request.{command_of, files_of}
 use Rattle.top_call.specs.declared.outcome.Product.{Product}
-use Rattle.top_call.specs.declared.outcome.Product.TheVariants as products
+use Rattle.top_call.specs.declared.outcome.Product.TheVariants.{Day, Plan, Shown, Located}
 
--- a certified answer of a track that sinks nowhere never decays, and is resolved where no long stretch grazes throughout
-resolved : (track : TrackRecord) (resolution slots used : ℕ) (answer : AnswerRecord) (list : List Span) →
-    ((place : ℚ) → ¬ (track.sinks place)) → IsCertified track resolution slots used answer list → GrazesNowhereLong track resolution → IsResolved answer
-resolved track resolution slots used (spans count) list s h n = tt
-resolved track resolution slots used (unresolved from to) list s h n =
-    n from (subst (λ t. t ≤ track.ticks) h.0.longer h.0.inside) (subst (λ t. Throughout from t track.grazes) h.0.longer h.0.grazes)
-resolved track resolution slots used (full at) list s h n = tt
-resolved track resolution slots used (decays at) list s h n = s h.0.sinks.0 h.0.sinks.1.1
+-- the shelf allows the catalogue of a plan
+pub plan_allowed : {A : Type 0} (S : Shelf A) (shelf : A) (words : List (List ℕ)) (request : Request) (catalogue stations : Part) (window : WindowRecord) (name : List ℕ) →
+    request ≡ requests.Plan catalogue stations window → name ≡ text_at words catalogue → AreAllowed S shelf (files_of words request) → S.allows shelf name
+plan_allowed S shelf words request catalogue stations window name is at allowed =
+    let here : AreAllowed S shelf (files_of words (requests.Plan catalogue stations window)) = subst (λ r. AreAllowed S shelf (files_of words r)) is allowed in
+    here name (inl (window.start, (at, refl)))
 
-steady : (track : TrackRecord) (resolution slots used : ℕ) (answer : AnswerRecord) (list : List Span) →
-    ((place : ℚ) → ¬ (track.sinks place)) → IsCertified track resolution slots used answer list → (at : ℕ) → answer ≢ decays at
-steady track resolution slots used (decays at) list s h tick e = s h.0.sinks.0 h.0.sinks.1.1
-steady track resolution slots used (spans count) list s h tick e = absurd (cc)
-steady track resolution slots used (unresolved from to) list s h tick e = absurd (cc)
-steady track resolution slots used (full at) list s h tick e = absurd (cc)
+module _ {A B : Type 0} (S : Shelf A) (K : Sink B) (words : List (List ℕ)) (before after : A) (old new : B) where
+  pub day_run : (lat lon : DecimalRecord) (window : WindowRecord) (e : Ending DayRecord) (r : Ending Product) → r ≡ ending_of Day e →
+      WithProduct (IsDayAt lat lon window) e → IsWritten K day_text e old new → IsForMemory e →
+      IsRunOf S K (command_of words (requests.Day lat lon window)) r before before old new
+  day_run lat lon window e r is product written want =
+      rw is
+      (mapped_run Day (day lat lon window) (command_of words (requests.Day lat lon window)) e refl (λ p h. h) (λ p. refl)
+      (run_behind (day lat lon window) e (nothing_loaded S before) product written want))
 
-pub product_of_words : (held : List ℕ → Option (List ℕ)) (words : List (List ℕ)) (request : Request) (product : Product) → words_value words ≡ Ok request → IsOfRequest held words request product → IsProductOf held words product
-product_of_words held words (requests.Day lat lon window) (products.Day day) e h = record {
-  lat = lat;
-  lon = lon;
-  of_words = e ∙ ap (λ w. Ok (requests.Day lat lon w)) (sym h.window_is);
-  certified = h.certified;
-  resolved = resolved _ _ _ _ _ _ (λ place s. s) h.certified;
-  never_decays = steady _ _ _ _ _ _ (λ place s. s) h.certified;
-}
-product_of_words held words (requests.Day lat lon window) (products.Shown entries) e h = absurd h
-product_of_words held words (requests.Day lat lon window) (products.Located answer) e h = absurd h
-product_of_words held words (requests.Show catalogue start) (products.Day day) e h = absurd h
-product_of_words held words (requests.Show catalogue start) (products.Located answer) e h = absurd h
-product_of_words held words (requests.Show catalogue start) (products.Shown entries) e h = record { catalogue = catalogue; start = start; of_words = e; answer = h }
-product_of_words held words (requests.Locate catalogue number at) (products.Day day) e h = absurd h
-product_of_words held words (requests.Locate catalogue number at) (products.Shown entries) e h = absurd h
-product_of_words held words (requests.Locate catalogue number at) (products.Located answer) e h = record { catalogue = catalogue; number = number; at = at; of_words = e; located = h }
+  pub show_run : (catalogue : Part) (start : ℤ) (name : List ℕ) (e : Ending (List Entry)) (r : Ending Product) → r ≡ ending_of Shown e → name ≡ text_at words catalogue →
+      IsRunOf S K (show name start) e before after old new → IsRunOf S K (command_of words (requests.Show catalogue start)) r before after old new
+  show_run catalogue start name e r is at h =
+      rw is
+      (mapped_run Shown (show name start) (command_of words (requests.Show catalogue start)) e (ap (λ n. catalogue_alone n start) at)
+      (λ p k. subst (λ n. IsShownAt (S.held before n) start p) at k) (λ p. refl) h)
+
+  pub locate_run : (catalogue : Part) (number : ℕ) (instant : ℤ) (name : List ℕ) (e : Ending LocAnswer) (r : Ending Product) → r ≡ ending_of Located e → name ≡ text_at words catalogue →
+      IsRunOf S K (locate name number instant) e before after old new → IsRunOf S K (command_of words (requests.Locate catalogue number instant)) r before after old new
+  locate_run catalogue number instant name e r is at h =
+      rw is
+      (mapped_run Located (locate name number instant) (command_of words (requests.Locate catalogue number instant)) e (ap (λ n. catalogue_alone n instant) at)
+      (λ p k. subst (λ n. IsLocatedAt (S.held before n) number instant p) at k) (λ p. refl) h)
+
+  pub plan_run : (catalogue stations : Part) (window : WindowRecord) (name other : List ℕ) (e : Ending PlanState) (r : Ending Product) → r ≡ ending_of Plan e → name ≡ text_at words catalogue → other ≡ text_at words stations →
+      IsRunOf S K (plan_of name other window) e before after old new → IsRunOf S K (command_of words (requests.Plan catalogue stations window)) r before after old new
+  plan_run catalogue stations window name other e r is at beside h =
+      rw is
+      (mapped_run Plan (plan_of name other window) (command_of words (requests.Plan catalogue stations window)) e
+      (ap (λ n. catalogue_and_stations n window.start other) at ∙ ap (λ n. catalogue_and_stations (text_at words catalogue) window.start n) beside)
+      (λ p k. subst (λ n. IsPlannedAt (S.held before n) (S.held before (text_at words stations)) window (plan_record p)) at
+      (subst (λ n. IsPlannedAt (S.held before name) (S.held before n) window (plan_record p)) beside k))
+      (λ p. refl) h)

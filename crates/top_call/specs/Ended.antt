@@ -1,29 +1,26 @@
--- What is known where the program ends: the outcome of a run, what was written, and the exit status.
-use Rattle.std.specs.Prelude.{◌≡◌, ℕ, List, Err}
-use Rattle.std.specs.declared.option.Option.{Option}
-use Rattle.pass_words.specs.Words.{words_value}
-use Rattle.pass_words.specs.declared.fault.UsageFault.{UsageFault}
-use Rattle.pass_words.specs.declared.fault.WindowFault.{WindowFault}
-use Rattle.pass_words.specs.declared.fault.WordFault.TheVariants as word_faults
-use Rattle.top_call.specs.Causes.{IsCaused}
-use Rattle.top_call.specs.Outcome.{IsProductOf, IsWritten}
-use Rattle.top_call.specs.Shelf.{IsCounted}
-use Rattle.top_call.specs.Status.{status_of}
+-- What is known where the program ends.
+use Rattle.std.specs.Prelude.{◌≡◌, ◌⊎◌, ℕ, List, Option}
+use Rattle.outside_io.specs.Words.{AreTold}
+use Rattle.outside_io.specs.declared.shelf.Shelf.{Ghosts as Shelf}
+use Rattle.outside_io.specs.declared.sink.Sink.{Ghosts as Sink}
+use Rattle.run_ends.specs.Counted.{AreKept}
+use Rattle.top_call.specs.Outcome.{IsWritten, status_of}
+use Rattle.top_call.specs.Run.{IsRun}
 use Rattle.top_call.specs.declared.outcome.Outcome.{Outcome}
-use Rattle.top_call.specs.declared.outcome.Outcome.TheVariants.{Done, Usage, BadWindow, WriteFault}
-use Rattle.top_call.specs.declared.outcome.Product.{Product}
+use Rattle.top_call.specs.declared.outcome.Outcome.TheVariants.{OutOfMemory}
 
--- There are words and an outcome: a fault of the words or the window is that of the words, a product is that of the words,
--- another refusal has its cause, what was written and counted is what the outcome says, and the status is its number. The
--- counts are those of the shelf, of loads that failed and of files that were too long, and that of the output's faults.
-pub record IsEnded (held : List ℕ → Option (List ℕ)) (faults faults_after overs overs_after before after : ℕ) (old now : Option (List ℕ)) (status : ℕ) : Type 0 where
+-- there was no memory for the words: no file was asked for, and the one line of that was printed
+pub record IsWordless {A B : Type 0} (S : Shelf A) (K : Sink B) (outcome : Outcome) (shelf shelf_after : A) (out out_after : B) : Type 0 where
+  pub want : outcome ≡ OutOfMemory
+  pub written : IsWritten K OutOfMemory out out_after
+  pub counts : AreKept S shelf shelf_after
+
+-- There are words, those of the arguments where these are told, and an outcome: that of a run of the words, or want of
+-- memory for them. The exit status is the outcome's.
+pub record IsEnded {A B : Type 0} (S : Shelf A) (K : Sink B) (told : Option (List (List ℕ))) (status : ℕ)
+    (shelf shelf_after : A) (out out_after : B) : Type 0 where
   pub words : List (List ℕ)
+  pub given : AreTold told words
   pub outcome : Outcome
-  pub usage : (fault : UsageFault) → outcome ≡ Usage fault → words_value words ≡ Err (word_faults.Usage fault)
-  pub window : (fault : WindowFault) → outcome ≡ BadWindow fault → words_value words ≡ Err (word_faults.Window fault)
-  pub done : (product : Product) → outcome ≡ Done product → IsProductOf held words product
-  pub cut : (product : Product) → outcome ≡ WriteFault product → IsProductOf held words product
-  pub written : IsWritten outcome before after old now
-  pub causes : IsCaused held words outcome
-  pub counts : IsCounted outcome faults faults_after overs overs_after
+  pub run : IsRun S K words outcome shelf shelf_after out out_after ⊎ IsWordless S K outcome shelf shelf_after out out_after
   pub status_is : status ≡ status_of outcome

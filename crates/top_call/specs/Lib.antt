@@ -1,12 +1,5 @@
-pub mod Causes
-pub mod Day
 pub mod Ended
-pub mod Files
-pub mod Located
+pub mod Given
 pub mod Outcome
-pub mod Printed
-pub mod Refused
-pub mod Shelf
-pub mod Shown
-pub mod Status
-pub mod Whole
+pub mod Request
+pub mod Run

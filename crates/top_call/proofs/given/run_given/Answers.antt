@@ -1,32 +1,27 @@
-use Rattle.std.proofs.Common.{[]}
-use Rattle.top_call.proofs.EndedLemmas.{not_cut, not_done, not_usage, not_window, want_caused, want_counted}
+use Rattle.std.proofs.Common.{inl, inr, refl, ◌∙◌}
+use Rattle.top_call.proofs.GivenLemmas.{told_words}
+use Rattle.top_call.specs.declared.outcome.Outcome.TheVariants.{OutOfMemory}
 use Rattle.top_call.proofs.given.run_given.Goals as goal
+
+pub run-requires : goal.run-requires
+run-requires g c = c.requires c.deref.result.now (rw c.deref.ensures.value c.in-Ok.ensures)
 
 pub returns-in-Ok : goal.returns-in-Ok
 returns-in-Ok g c = record {
-  words = _;
+  words = c.deref.result.now;
+  given = rw c.deref.ensures.value c.in-Ok.ensures;
   outcome = c.run.result;
-  usage = λ fault e. (c.run.ensures.usage fault).0 e;
-  window = λ fault e. (c.run.ensures.window fault).0 e;
-  done = c.run.ensures.certificate;
-  cut = c.run.ensures.certificate_of_a_cut;
-  written = c.run.ensures.written;
-  causes = c.run.ensures.causes;
-  counts = c.run.ensures.counts;
+  run = inl c.run.ensures;
   status_is = c.code_of.ensures;
 }
 
 pub returns-in-Err : goal.returns-in-Err
 returns-in-Err g c =
-    let want = c.refuse_words.ensures.outcome in record {
-      words = [];
-      outcome = c.refuse_words.result;
-      usage = λ fault e. absurd (not_usage c.refuse_words.result fault want e);
-      window = λ fault e. absurd (not_window c.refuse_words.result fault want e);
-      done = λ product e. absurd (not_done c.refuse_words.result product want e);
-      cut = λ product e. absurd (not_cut c.refuse_words.result product want e);
-      written = c.refuse_words.ensures.written;
-      causes = want_caused _ [] c.refuse_words.result want;
-      counts = want_counted _ _ c.refuse_words.result want;
+    let some = told_words (g.W.Arguments.told c.args.arguments.now) in
+    let line = c.bytes.ensures.value ∙ c.memory_line.ensures in record {
+      words = some.0;
+      given = some.1;
+      outcome = OutOfMemory;
+      run = inr (record { want = refl; written = rw line at c.put_refusal.ensures; counts = record { no_fault = refl; no_over = refl } });
       status_is = c.code_of-in-Err.ensures;
     }
