@@ -8,8 +8,8 @@ declination and hour angle. Nothing here is taken from the program's own code. W
 - status 0 with spans, or 1 with UNRESOLVED or FULL; the first lines and the last; the window as it was asked for;
 - the spans tile the window, neighbours differ;
 - L and N: the sign is right at 20 random instants and at both ends;
-- U: no longer than the resolution, and within 0.001 of 0 at 5 instants, both ends among them;
-- UNRESOLVED: one tick longer than the resolution, inside the window, and within 0.001 of 0 at 5 instants.
+- U: no longer than the resolution, and within 2^-23 of 0 at 5 instants, both ends among them;
+- UNRESOLVED: one tick longer than the resolution, inside the window, and within 2^-23 of 0 at 5 instants.
 
 How to run it, at the top of the repository, once ./passplan has built the program:
 
@@ -26,7 +26,7 @@ import sys
 SEED = 20000621
 RUNS = 2000
 SLACK = 1e-11
-GRAZE = 0.001
+GRAZE = 2**-23
 TICK = 10_000  # ticks in a second
 EPOCH = datetime.datetime(2000, 1, 1, 12)
 DAY = 86_400 * TICK
