@@ -59,6 +59,18 @@ heads() {
   found=${found%.}
   [ "$found" = "$wanted" ] || fails "$rows ($*)" "$wanted" "$found"
 }
+# holds STATUS PATTERN WORDS..   the program ends so, and its output matches the pattern, an extended regular expression in
+# which `~` stands for a line feed
+holds() {
+  local wanted="$1 ${2//\~/$'\n'}" found
+  shift 2
+  rows=$((rows + 1))
+  "$program" "$@" >out 2>err
+  found="$? $(cat out; printf .)"
+  found=${found%.}
+  [[ $found =~ ^${wanted%% *}\ .*(${wanted#* }) ]] || fails "$rows ($*)" "$wanted" "$found"
+  [ ! -s err ] || fails "$rows ($*): standard error" '' "$(cat err)"
+}
 # cut STATUS WORDS..   the program ends so over a full device
 cut() {
   local wanted=$1 found
@@ -94,6 +106,74 @@ row 1 $'PASSLOCATE 1\nAT 2000-06-27T18:50:19.733568000Z\nMISSING 6\nEND\n' locat
 row 1 $'PASSLOCATE 1\nAT 2000-06-27T18:50:19.733568000Z\nSAT 25544 FAR ISS (ZARYA)\nEND\n' \
   locate --catalogue=sub/b --number=25544 --at=$at
 
+# the README's commands
+holds 0 'SAT 25544 OK ISS \(ZARYA\)~.*~PAIR 25544 1 SPANS 21~.*~TABLE 1 5~' plan --catalogue="$top/examples/iss.tle" \
+  --stations="$top/examples/stations.toml" --start=2008-09-20T12:00:00Z --end=2008-09-21T12:00:00Z --res=1
+holds 0 '~SET 25544 ' show --catalogue="$top/examples/iss.tle" --start=2008-09-20T00:00:00Z
+holds 0 'SAT 25544 OK ISS \(ZARYA\)~X ' locate --catalogue="$top/examples/iss.tle" --number=25544 --at=2008-09-20T12:00:00Z
+
+# plans: the equatorial satellite 90001 seen from the pole, from the equator along the borders of a mask, and the
+# International Space Station over a day
+circle='1 90001U 00001A   00179.00000000  .00000000  00000-0  00000-0 0    12'
+printf '%s\n' "$circle" '2 90001   0.0000   0.0000 0010000   0.0000   0.0000 15.00000000    10' >c
+printf '%s\n' "$circle" '2 90001   0.0000   0.0000 0010000   0.0000   0.0000  6.00000000    10' >deep
+printf '%s\n' "$circle" '2 90001   0.0000   0.0000 2000001   0.0000   0.0000 15.00000000    12' >eccentric
+# pole_with LINE..   a station file of the pole, with these lines in the place of `mask`
+pole_with() {
+  printf '%s\n' 'version = 1' '[[station]]' 'name = "Pole"' 'lat = "90"' 'lon = "0"' 'height = "0"' "$@"
+}
+pole_with 'mask = "0"' >p
+pole_with 'mask = "-90"' >open
+pole_with 'borders = ["0", "91", "180", "270"]' 'masks = ["0", "0", "0", "0"]' >gap
+sed 's/lat = "90"/lat = 90.0/' p >number
+sed 's/lat = "90"/lat = "90.5"/' p >beyond
+{ cat p; sed 1d p; } >twice
+{ cat p; printf '\xff'; } >bytes
+sed 's/version = 1/version = 2\ndut1_ms = 0/' p >second
+sed 's/version = 1/version = 2\ndut1_ms = -334/' p >offset
+sed 's/version = 1/version = 2/' p >offsetless
+sed 's/version = 1/version = 2\ndut1_ms = 901/' p >faroffset
+sed 's/version = 1/version = 1\ndut1_ms = 0/' p >earlyoffset
+sed 's/version = 1/version = 3/' p >third
+printf 'version = 1\n' >nostation
+printf '%s\n' 'version = 1' '[[station]]' 'name = "Equator"' 'lat = "0"' 'lon = "0"' 'height = "0"' \
+  'borders = ["0", "90", "180", "270"]' 'masks = ["0", "80", "80", "0"]' >borders
+printf '%s\n' 'version = 1' '[[station]]' 'name = "Munich"' 'lat = "48.1"' 'lon = "11.3"' 'height = "600"' 'mask = "5"' >munich
+hour=(--start=2000-06-27T00:00:00Z --end=2000-06-27T01:00:00Z --res=1)
+over='2000-06-27T00:00:00.0000Z 2000-06-27T01:00:00.0000Z'
+row 1 "PASSPLAN 1"$'\n'"WINDOW $over 1"$'\nSTATION 1 Pole\nSAT 90001 DEEP -\nTABLE 1 0\nEND\n' \
+  plan --catalogue=deep --stations=p "${hour[@]}"
+row 1 "PASSPLAN 1"$'\n'"WINDOW $over 1"$'\nSTATION 1 Pole\nSAT 90001 ECCENTRIC -\nTABLE 1 0\nEND\n' \
+  plan --catalogue=eccentric --stations=p "${hour[@]}"
+july='2000-07-05T00:00:00.0000Z 2000-07-05T01:00:00.0000Z'
+row 1 "PASSPLAN 1"$'\n'"WINDOW $july 1"$'\nSTATION 1 Pole\nSAT 90001 FAR -\nTABLE 1 0\nEND\n' \
+  plan --catalogue=c --stations=p --start=2000-07-05T00:00:00Z --end=2000-07-05T01:00:00Z --res=1
+holds 0 "SAT 90001 OK -~LIT 90001 SPANS .*~PAIR 90001 1 SPANS 1~H $over~TABLE 1 0~END~$" \
+  plan --catalogue=c --stations=p "${hour[@]}"
+holds 0 "~PAIR 90001 1 SPANS 1~V $over~TABLE 1 1~PASS $over 90001~END~$" plan --catalogue=c --stations=open "${hour[@]}"
+holds 1 '~PAIR 90001 1 UNRESOLVED 2000-06-27T0[01]:[0-9:.]*Z 2000-06-27T0[01]:[0-9:.]*Z~TABLE 1 0~END~$' \
+  plan --catalogue=c --stations=borders --start=2000-06-27T00:00:00Z --end=2000-06-27T02:00:00Z --res=1
+holds 0 'SAT 25544 OK ISS \(ZARYA\)~.*~TABLE 1 5~(PASS [0-9TZ:.-]* [0-9TZ:.-]* 25544~){5}END~$' \
+  plan --catalogue=sub/b --stations=munich --start=2008-09-20T12:00:00Z --end=2008-09-21T12:00:00Z --res=1
+holds 0 "WINDOW $over 1~STATION 1 Pole~" plan --catalogue=c --stations=second "${hour[@]}"
+holds 0 "WINDOW $over 1~DUT1 -334~STATION 1 Pole~" plan --catalogue=c --stations=offset "${hour[@]}"
+row 5 $'error stations shape 1 lat\n' plan --catalogue=c --stations=number "${hour[@]}"
+row 5 $'error stations mask 1\n' plan --catalogue=c --stations=gap "${hour[@]}"
+row 5 $'error stations twice 2\n' plan --catalogue=c --stations=twice "${hour[@]}"
+row 5 $'error stations range 1 lat\n' plan --catalogue=c --stations=beyond "${hour[@]}"
+row 5 $'error stations notutf8\n' plan --catalogue=c --stations=bytes "${hour[@]}"
+row 5 $'error stations shape 0 version\n' plan --catalogue=c --stations=/dev/null "${hour[@]}"
+row 5 $'error stations empty\n' plan --catalogue=c --stations=nostation "${hour[@]}"
+row 5 $'error stations shape 0 dut1_ms\n' plan --catalogue=c --stations=offsetless "${hour[@]}"
+row 5 $'error stations range 0 dut1_ms\n' plan --catalogue=c --stations=faroffset "${hour[@]}"
+row 5 $'error stations shape 0 other\n' plan --catalogue=c --stations=earlyoffset "${hour[@]}"
+row 5 $'error stations shape 0 version\n' plan --catalogue=c --stations=third "${hour[@]}"
+row 4 $'error catalogue empty\n' plan --catalogue=blank --stations=number "${hour[@]}"
+row 6 $'error read\n' plan --catalogue=c --stations=absent "${hour[@]}"
+row 7 $'error toolong\n' plan --catalogue=c --stations=long "${hour[@]}"
+row 2 $'error usage missing stations\n' plan --catalogue=c "${hour[@]}"
+row 3 $'error window order\n' plan --catalogue=c --stations=p --start=2000-06-27T00:00:00Z --end=2000-06-27T00:00:00Z --res=1
+
 row 2 $'error usage nocommand\n'
 row 2 $'error usage command\n' --help
 row 2 $'error usage command\n' ''
@@ -117,6 +197,7 @@ row 7 $'error toolong\n' show --catalogue=long --start=2000-06-28T00:00:00Z
 row 7 $'error toolong\n' locate --catalogue=/dev/zero --number=5 --at=$at
 
 cut 8 day --lat=90 --lon=0 "${june[@]}" --res=1
+cut 8 plan --catalogue=c --stations=p "${hour[@]}"
 cut 8 show --catalogue=a --start=2000-06-28T00:00:00Z
 cut 8 locate --catalogue=a --number=6 --at=$at
 cut 2 --help
