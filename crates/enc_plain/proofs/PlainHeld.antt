@@ -3,7 +3,7 @@ use Rattle.std.proofs.Common.{true, ℕ, []}
 use Rattle.exact.specs.Rational.{ℚ, zero_ℚ}
 use Rattle.exact.proofs.RationalRing.{reads}
 use Rattle.exact.proofs.Order.{known, le_by}
-use Rattle.exact.proofs.Intervals.{Interval}
+use Rattle.exact.specs.Interval.{Interval}
 use Rattle.fixed_iv.specs.Extent.{extent_of}
 use Rattle.fixed_iv.specs.Holds.{Holds}
 use Rattle.fixed_iv.specs.Place.{Place}

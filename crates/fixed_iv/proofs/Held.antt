@@ -7,7 +7,8 @@ use Rattle.algebra.proofs.Polynomials.{passed}
 use Rattle.exact.specs.Rational.{ℚ, ◌+ℚ◌, ◌-ℚ◌, ◌*ℚ◌, neg_ℚ, zero_ℚ, one_ℚ, ratio, ◌≤ℚ◌}
 use Rattle.exact.proofs.RationalRing.{reads}
 use Rattle.exact.proofs.Order.{le_trans, le_by, gap, known, ◌⊕◌}
-use Rattle.exact.proofs.Intervals.{Interval, Inside, coef_le, coef_le_holds, interval_add, interval_mul, interval_add_holds, interval_mul_holds}
+use Rattle.exact.specs.Interval.{Interval, Inside, coef_le, interval_add, interval_mul}
+use Rattle.exact.proofs.Intervals.{coef_le_holds, interval_add_holds, interval_mul_holds}
 use Rattle.sgp4_model.specs.Angle.{IsNear, IsPi, IsSinCos, part}
 use Rattle.sgp4_model.proofs.Pythagoras.{sine_pairs_are_bounded}
 use Rattle.fixed_iv.specs.Extent.{Extent, AreSmall, IsNarrow, size, width_of}

@@ -3,10 +3,11 @@ use Rattle.std.proofs.Common.{◌≡◌, arith, true, false, [], ◌∷◌, ◌�
 use Rattle.std.proofs.lemmas.Int.{ints}
 use Rattle.std.specs.Int.{int_max, int_min}
 use Rattle.exact.specs.Rational.{ℚ, ratio, abs_ℚ, ◌≤ℚ◌}
-use Rattle.exact.proofs.RationalRing.{Coef, number_of, reads}
+use Rattle.exact.specs.Interval.{Coef, number_of, Interval, Inside, coef_le, coef_max, coef_min}
+use Rattle.exact.proofs.RationalRing.{reads}
 use Rattle.exact.proofs.Order.{gap, known, le_by, le_trans, ◌⊕◌, ◌⊗◌}
 use Rattle.exact.proofs.Bounds.{abs_le, le_of_abs}
-use Rattle.exact.proofs.Intervals.{Interval, Inside, coef_le, coef_max, coef_min, max_holds, min_holds}
+use Rattle.exact.proofs.Intervals.{max_holds, min_holds}
 use Rattle.fixed_iv.specs.Common.{IsGreater, IsGreaterOf}
 use Rattle.fixed_iv.specs.Extent.{AreSmall, Extent, extent_of, width_of}
 use Rattle.fixed_iv.specs.Holds.{Holds}

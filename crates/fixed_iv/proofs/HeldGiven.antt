@@ -3,9 +3,10 @@ use Rattle.std.proofs.Common.{◌≡◌, refl, arith, subst, [], ℕ, suc, ◌^�
 use Rattle.std.proofs.lemmas.Int.{ints}
 use lib.Signed.{non_neg}
 use Rattle.exact.specs.Rational.{ℚ, ratio, of_int, ◌+ℚ◌, ◌≤ℚ◌}
-use Rattle.exact.proofs.RationalRing.{Coef, number_of, reads}
+use Rattle.exact.specs.Interval.{Coef, number_of, Interval, Inside, just}
+use Rattle.exact.proofs.RationalRing.{reads}
 use Rattle.exact.proofs.Order.{known, le_by, le_trans}
-use Rattle.exact.proofs.Intervals.{Interval, Inside, just, just_holds}
+use Rattle.exact.proofs.Intervals.{just_holds}
 use Rattle.sgp4_model.specs.Angle.{IsPi, least_pi}
 use Rattle.fixed_iv.specs.Ends.{in_units}
 use Rattle.fixed_iv.specs.Extent.{AreSmall, Extent, extent_of, width_of}

@@ -8,7 +8,8 @@ use Rattle.exact.proofs.RationalRing.{ring, reads}
 use Rattle.exact.proofs.Order.{gap, le_by}
 use Rattle.exact.proofs.Strict.{Positive, positive_known, positive_product}
 use Rattle.exact.proofs.Integers.{of_int_neg}
-use Rattle.exact.proofs.Intervals.{interval_mul, interval_mul_holds}
+use Rattle.exact.specs.Interval.{interval_mul}
+use Rattle.exact.proofs.Intervals.{interval_mul_holds}
 use Rattle.fixed_iv.specs.Ends.{in_units}
 use Rattle.fixed_iv.specs.Extent.{AreSmall, Extent, size}
 use Rattle.fixed_iv.specs.Holds.{Holds}

@@ -5,12 +5,13 @@ use Rattle.std.proofs.Math.Nat.{mul-le-mul}
 use Rattle.std.proofs.lemmas.Int.{ints, by_lt_z}
 use Rattle.std.proofs.lemmas.Nat.{le-div}
 use Rattle.exact.specs.Rational.{ℚ, ◌+ℚ◌, ◌*ℚ◌, abs_ℚ, of_int, ratio, zero_ℚ, ◌≤ℚ◌}
-use Rattle.exact.proofs.RationalRing.{Coef, number_of, number_sum, number_product, coef_add, coef_mul, reads}
+use Rattle.exact.specs.Interval.{Coef, number_of, coef_add, coef_mul, Interval, Inside, coef_le}
+use Rattle.exact.proofs.RationalRing.{number_sum, number_product, reads}
 use Rattle.exact.proofs.Order.{NonNeg, gap, known, le_by, le_trans, not_negative, ◌⊕◌, ◌⊗◌}
 use Rattle.exact.proofs.Bounds.{abs_le}
 use Rattle.exact.proofs.Strict.{le_of_lt}
 use Rattle.exact.proofs.Integers.{of_int_le, of_int_is}
-use Rattle.exact.proofs.Intervals.{Interval, Inside, coef_le, coef_le_holds}
+use Rattle.exact.proofs.Intervals.{coef_le_holds}
 use Rattle.sgp4_model.specs.Angle.{part}
 use Rattle.sgp4_model.specs.Root.{IsCbrt2, IsSqrt}
 use Rattle.sgp4_model.proofs.Powers.{le_of_cubes, le_of_squares}

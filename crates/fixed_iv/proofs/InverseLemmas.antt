@@ -1,12 +1,12 @@
 -- The range of 1 / x, for x in a range on one side of 0.
 use Rattle.std.proofs.Common.{◌≡◌, ◌∙◌, ap, sym, subst, [], ◌∷◌, ◌⊎◌, inl, inr, zero, suc, ℕ, ℤ, pos, negsuc}
 use Rattle.exact.specs.Rational.{ℚ, ratio, of_int, inverse, ◌*ℚ◌, neg_ℚ, one_ℚ, zero_ℚ, ◌≤ℚ◌}
-use Rattle.exact.proofs.RationalRing.{Coef, number_of, ring, reads}
+use Rattle.exact.specs.Interval.{Coef, number_of, Interval, Inside}
+use Rattle.exact.proofs.RationalRing.{ring, reads}
 use Rattle.exact.proofs.Order.{NonNeg, gap, known, le_by, same_sign, ◌⊗◌}
 use Rattle.exact.proofs.Bounds.{neg_le_neg}
 use Rattle.exact.proofs.Strict.{Positive, mul_inverse, not_both, not_zero, positive_sum}
 use Rattle.exact.proofs.Integers.{ratio_is_product, ratio_neg}
-use Rattle.exact.proofs.Intervals.{Interval, Inside}
 use Rattle.fixed_iv.specs.Reach.{coef_inverse, interval_inverse}
 use Rattle.fixed_iv.proofs.QuotientLemmas.{cancel, unit_ratio}
 

@@ -4,11 +4,12 @@ use Rattle.std.proofs.lemmas.Int.{ints}
 use Rattle.std.specs.Int.Signed.{pos-nat_abs}
 use lib.Signed.{non_neg}
 use Rattle.exact.specs.Rational.{ℚ, ratio, of_int, neg_ℚ, abs_ℚ, ◌≤ℚ◌}
-use Rattle.exact.proofs.RationalRing.{Coef, number_of, reads}
+use Rattle.exact.specs.Interval.{Coef, number_of, Interval, Inside}
+use Rattle.exact.proofs.RationalRing.{reads}
 use Rattle.exact.proofs.Order.{gap, known, le_by, le_trans, ◌⊗◌}
 use Rattle.exact.proofs.Bounds.{abs_le, neg_le_neg}
 use Rattle.exact.proofs.Integers.{of_int_le, le_of_int, ratio_is_product, floor_le, le_ceiling}
-use Rattle.exact.proofs.Intervals.{Interval, Inside, coef_le_holds}
+use Rattle.exact.proofs.Intervals.{coef_le_holds}
 use Rattle.fixed_iv.specs.Ends.{in_units}
 use Rattle.fixed_iv.specs.Extent.{Extent, size, width_of}
 use Rattle.fixed_iv.specs.Holds.{Holds}

@@ -2,7 +2,7 @@
 use Rattle.std.proofs.Common.{◌≡◌, T, suc, ℕ, ℤ, pos, ◌-ℤ◌}
 use lib.Signed.{non_neg}
 use Rattle.exact.specs.Rational.{ℚ, ◌+ℚ◌, ◌-ℚ◌, ◌*ℚ◌, ◌/ℚ◌, ratio, zero_ℚ}
-use Rattle.exact.proofs.Intervals.{just}
+use Rattle.exact.specs.Interval.{just}
 use Rattle.sgp4_model.specs.Angle.{IsPi, IsSinCos}
 use Rattle.fixed_iv.specs.Follows.{Encloses}
 use Rattle.fixed_iv.specs.Holds.{Holds, IsTightest}

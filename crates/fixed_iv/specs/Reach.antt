@@ -5,9 +5,7 @@ use Rattle.std.specs.Int.{int_max, int_min}
 use lib.Signed.{non_neg}
 use Rattle.algebra.proofs.Polynomials.{Unless}
 use Rattle.exact.specs.Rational.{ℚ}
-use Rattle.exact.proofs.RationalRing.{Coef}
-use Rattle.exact.proofs.Intervals.{Interval, Inside, interval_add, interval_mul, coef_max, coef_min, coef_neg, coef_le, floor}
-use Rattle.exact.proofs.Integers.{ceiling}
+use Rattle.exact.specs.Interval.{Coef, Interval, Inside, interval_add, interval_mul, coef_max, coef_min, coef_neg, coef_le, floor, ceiling}
 use Rattle.fixed_iv.specs.Extent.{Extent, IsMeasured, width_of}
 use Rattle.fixed_iv.specs.Holds.{Holds, IsBounded}
 use Rattle.fixed_iv.specs.Place.{Place}

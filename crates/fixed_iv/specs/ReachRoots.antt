@@ -1,8 +1,6 @@
 -- What numerals say of a square root, and of a cube root of a square.
 use Rattle.std.specs.Prelude.{ℕ, zero, suc, leb, ltb, ◌+◌, ◌*◌, ◌/◌, ◌^◌, ◌-◌, Bool, true, false, ◌&&◌, pos, ◌*ℤ◌}
-use Rattle.exact.proofs.RationalRing.{Coef, coef_add, coef_mul}
-use Rattle.exact.proofs.Intervals.{Interval, coef_le, floor}
-use Rattle.exact.proofs.Integers.{ceiling}
+use Rattle.exact.specs.Interval.{Coef, coef_add, coef_mul, Interval, coef_le, floor, ceiling}
 use Rattle.fixed_iv.specs.Reach.{Reach, above_0, grain, lowest}
 
 -- the square root of n, rounded down, from so far and so many binary places

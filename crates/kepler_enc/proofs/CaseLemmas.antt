@@ -4,7 +4,8 @@ use Rattle.std.proofs.lemmas.Int.{ints}
 use Rattle.exact.specs.Rational.{ℚ, ratio, ◌+ℚ◌, ◌-ℚ◌, ◌*ℚ◌, zero_ℚ, one_ℚ, ◌≤ℚ◌}
 use Rattle.exact.proofs.RationalRing.{ring, reads}
 use Rattle.exact.proofs.Order.{gap, known, le_by, le_trans, not_negative, ◌⊕◌, ◌⊗◌}
-use Rattle.exact.proofs.Intervals.{Inside, interval_add, interval_add_holds}
+use Rattle.exact.specs.Interval.{Inside, interval_add}
+use Rattle.exact.proofs.Intervals.{interval_add_holds}
 use Rattle.sgp4_model.specs.Angle.{IsNear, IsPi, IsSinCos, part}
 use Rattle.sgp4_model.specs.Kepler.{IsKepler}
 use Rattle.sgp4_model.proofs.Near.{near_positive, near_weaken}

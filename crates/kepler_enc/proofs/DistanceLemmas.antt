@@ -4,7 +4,7 @@ use Rattle.std.proofs.lemmas.Int.{ints}
 use Rattle.exact.specs.Rational.{ℚ, of_int, ratio, ◌+ℚ◌, ◌-ℚ◌, neg_ℚ, zero_ℚ, one_ℚ, ◌≤ℚ◌}
 use Rattle.exact.proofs.RationalRing.{ring, reads}
 use Rattle.exact.proofs.Order.{gap, known, le_by, ◌⊕◌, ◌⊗◌}
-use Rattle.exact.proofs.Intervals.{Inside}
+use Rattle.exact.specs.Interval.{Inside}
 use Rattle.exact.proofs.Integers.{of_int_add, of_int_is, of_int_le, of_int_neg}
 use Rattle.sgp4_model.specs.Angle.{IsNear}
 use Rattle.fixed_iv.specs.Extent.{width_of}

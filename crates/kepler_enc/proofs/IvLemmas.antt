@@ -4,7 +4,7 @@ use Rattle.std.proofs.lemmas.Int.{ints}
 use Rattle.exact.specs.Rational.{ℚ, ratio, ◌+ℚ◌, ◌-ℚ◌, ◌*ℚ◌, ◌/ℚ◌, zero_ℚ, one_ℚ}
 use Rattle.exact.proofs.RationalRing.{reads}
 use Rattle.exact.proofs.Order.{known, le_by, le_refl}
-use Rattle.exact.proofs.Intervals.{Interval, Inside}
+use Rattle.exact.specs.Interval.{Interval, Inside}
 use Rattle.fixed_iv.specs.Extent.{Extent, extent_of}
 use Rattle.fixed_iv.specs.Holds.{Holds, IsBounded}
 use Rattle.fixed_iv.specs.Place.{Place}

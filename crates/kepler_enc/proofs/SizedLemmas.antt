@@ -5,7 +5,8 @@ use Rattle.exact.specs.Rational.{ℚ, abs_ℚ, of_int, ratio, ◌+ℚ◌, ◌-�
 use Rattle.exact.proofs.RationalRing.{ring, reads}
 use Rattle.exact.proofs.Order.{gap, known, le_by, le_trans, ◌⊕◌, ◌⊗◌}
 use Rattle.exact.proofs.Bounds.{abs_le, le_abs, neg_le_abs}
-use Rattle.exact.proofs.Intervals.{Interval, Inside, interval_add, interval_add_holds}
+use Rattle.exact.specs.Interval.{Interval, Inside, interval_add}
+use Rattle.exact.proofs.Intervals.{interval_add_holds}
 use Rattle.exact.proofs.Integers.{le_of_int}
 use Rattle.sgp4_model.specs.Angle.{IsNear, part}
 use Rattle.fixed_iv.specs.Extent.{size, width_of}

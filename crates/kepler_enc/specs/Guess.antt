@@ -3,7 +3,7 @@ use Rattle.std.specs.Prelude.{ℕ, ◌≤◌, pos}
 use Rattle.exact.specs.Rational.{ℚ, abs_ℚ, ratio, ◌+ℚ◌, ◌≤ℚ◌, ◌-ℚ◌, ◌*ℚ◌, ◌/ℚ◌, one_ℚ, zero_ℚ}
 use Rattle.sgp4_model.specs.Angle.{IsNear, IsSinCos}
 use Rattle.sgp4_model.specs.Kepler.{kepler_residual}
-use Rattle.exact.proofs.Intervals.{Inside}
+use Rattle.exact.specs.Interval.{Inside}
 use Rattle.fixed_iv.specs.Extent.{width_of}
 use Rattle.fixed_iv.specs.Holds.{Holds, IsBounded}
 use Rattle.fixed_iv.specs.Reach.{Reach, outer}

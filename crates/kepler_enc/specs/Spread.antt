@@ -2,7 +2,7 @@
 -- tried is a point; of the middles of u, ax and ay it is known that they are points within the bounds.
 use Rattle.std.specs.Prelude.{ℕ, ◌+◌, ◌-◌, ◌*◌, ◌/◌, ◌^◌, Bool, ◌&&◌, pos, neg_ℤ, ◌-ℤ◌}
 use lib.Signed.{non_neg}
-use Rattle.exact.proofs.Intervals.{Interval, interval_add}
+use Rattle.exact.specs.Interval.{Interval, interval_add}
 use Rattle.fixed_iv.specs.Reach.{Reach, claimed, given, in_fraction, outer, outer_size, turned, ◌+ᴿ◌, ◌-ᴿ◌, ◌*ᴿ◌, ◌/ᴿ◌}
 use Rattle.kepler_enc.specs.Numerals.{exactly_one}
 

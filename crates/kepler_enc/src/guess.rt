@@ -1,7 +1,7 @@
 //! A first guess of the root, by Newton's rule at points.
 ghost use Rattle.std.specs.Prelude.{◌≡◌, ◌≤ℤ◌, ℕ, T};
 ghost use Rattle.exact.specs.Rational.{ℚ};
-ghost use Rattle.exact.proofs.Intervals.{Inside};
+ghost use Rattle.exact.specs.Interval.{Inside};
 ghost use Rattle.fixed_iv.specs.Holds.{Holds};
 ghost use Rattle.fixed_iv.specs.Reach.{Reach, outer};
 ghost use Rattle.fixed_iv.proofs.EndLemmas.{at};

@@ -1,7 +1,7 @@
 //! The roots of Kepler's equation.
 ghost use Rattle.std.specs.Prelude.{◌≡◌, ◌≤◌, ◌↔◌, ℕ, T, IfSome, IsNone};
 ghost use Rattle.exact.specs.Rational.{ℚ, ◌+ℚ◌, ◌-ℚ◌, ◌*ℚ◌};
-ghost use Rattle.exact.proofs.Intervals.{Inside, Interval};
+ghost use Rattle.exact.specs.Interval.{Inside, Interval};
 ghost use Rattle.fixed_iv.specs.Place.{Place};
 ghost use Rattle.fixed_iv.specs.Reach.{Reach, IsHeld, given, turned, ◌+ᴿ◌, ◌-ᴿ◌, ◌*ᴿ◌};
 ghost use Rattle.fixed_iv.proofs.EndLemmas.{at};

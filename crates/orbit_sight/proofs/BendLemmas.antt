@@ -2,7 +2,8 @@
 -- it is -2/3 of a term of the density, times the drag term over the eccentricity.
 use Rattle.std.proofs.Common.{◌≡◌, ◌∙◌, refl, ap, sym, subst, [], ◌∷◌, Bool, true, false, not, T, pos, negsuc}
 use Rattle.exact.specs.Rational.{ℚ, at_least_0, inverse, ratio, neg_ℚ, one_ℚ, zero_ℚ, ◌+ℚ◌, ◌-ℚ◌, ◌*ℚ◌, ◌/ℚ◌, ◌^ℚ◌, ◌≤ℚ◌, ◌<ℚ◌}
-use Rattle.exact.proofs.Intervals.{Inside, between, inside}
+use Rattle.exact.specs.Interval.{Inside, between}
+use Rattle.exact.proofs.Intervals.{inside}
 use Rattle.exact.proofs.Order.{NonNeg, gap, known, le_by, not_negative, ◌⊕◌, ◌⊗◌}
 use Rattle.exact.proofs.RationalRing.{ring, reads}
 use Rattle.exact.proofs.Strict.{Positive, le_of_lt, le_quotient, mul_inverse, not_zero, positive_known, positive_sum, quotient_le}

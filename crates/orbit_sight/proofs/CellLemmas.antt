@@ -5,7 +5,8 @@ use Rattle.std.specs.Int.{int_max, int_min}
 use Rattle.std.specs.Int.Signed.{pos-nat_abs}
 use lib.Signed.{non_neg}
 use Rattle.exact.proofs.Order.{le_refl}
-use Rattle.exact.proofs.Intervals.{between, inside}
+use Rattle.exact.specs.Interval.{between}
+use Rattle.exact.proofs.Intervals.{inside}
 use Rattle.exact.proofs.Integers.{le_of_int}
 use Rattle.elements.specs.Window.{most_ticks}
 use Rattle.fixed_iv.specs.Extent.{Extent}

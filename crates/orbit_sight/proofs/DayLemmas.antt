@@ -6,7 +6,8 @@ use Rattle.exact.specs.Rational.{ℚ, ◌+ℚ◌, ◌-ℚ◌, ◌*ℚ◌, of_int
 use Rattle.exact.proofs.RationalRing.{reads}
 use Rattle.exact.proofs.Order.{NonNeg, gap, known, le_by, ◌⊕◌, ◌⊗◌}
 use Rattle.exact.proofs.Integers.{of_int_is, of_int_le}
-use Rattle.exact.proofs.Intervals.{Inside, inside}
+use Rattle.exact.specs.Interval.{Inside}
+use Rattle.exact.proofs.Intervals.{inside}
 use Rattle.fixed_iv.specs.Extent.{Extent, width_of}
 use Rattle.fixed_iv.specs.Holds.{Holds, IsBounded}
 use Rattle.fixed_iv.specs.Place.{Place}

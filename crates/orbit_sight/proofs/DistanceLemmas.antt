@@ -5,7 +5,8 @@ use Rattle.exact.proofs.RationalRing.{ring, reads}
 use Rattle.exact.proofs.Bounds.{square}
 use Rattle.exact.proofs.Strict.{mul_inverse}
 use Rattle.exact.proofs.Order.{◌⊕◌, ◌⊗◌, gap, known, le_by, not_negative}
-use Rattle.exact.proofs.Intervals.{Inside, between, inside, le_on}
+use Rattle.exact.specs.Interval.{Inside, between}
+use Rattle.exact.proofs.Intervals.{inside, le_on}
 use Rattle.sgp4_model.specs.Numerals.{decimal, whole}
 use Rattle.sgp4_model.specs.Angle.{IsPi, IsNear, part}
 use Rattle.sgp4_model.specs.OrbitRecords.{ConstRecord, MeanRecord}

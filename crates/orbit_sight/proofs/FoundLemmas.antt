@@ -3,7 +3,8 @@ use Rattle.std.proofs.Common.{◌≡◌, arith, inl, inr, subst, sym, T, [], ◌
 use Rattle.std.proofs.lemmas.Int.{ints, by_lt_z}
 use Rattle.exact.specs.Rational.{ℚ, ◌*ℚ◌, ◌≤ℚ◌}
 use Rattle.exact.proofs.Order.{gap, known, le_by, ◌⊕◌}
-use Rattle.exact.proofs.RationalRing.{number_of, reads}
+use Rattle.exact.specs.Interval.{number_of}
+use Rattle.exact.proofs.RationalRing.{reads}
 use Rattle.elements.specs.Elements.{ElementsRecord, record_of_elements}
 use Rattle.enc_plain.specs.declared.plain.Plain.{Plain}
 use Rattle.fixed_iv.specs.Follows.{Encloses}

@@ -3,9 +3,10 @@ use Rattle.std.proofs.Common.{◌≡◌, arith, sym, subst, inl, inr, Bool, ◌�
 use Rattle.std.proofs.lemmas.Int.{ints}
 use Rattle.exact.specs.Rational.{ℚ, ratio, zero_ℚ, ◌≤ℚ◌, ◌<ℚ◌}
 use Rattle.exact.proofs.Integers.{ratio_is_product}
-use Rattle.exact.proofs.Intervals.{Inside, coef_le, coef_le_holds}
+use Rattle.exact.specs.Interval.{Inside, coef_le, Coef, number_of}
+use Rattle.exact.proofs.Intervals.{coef_le_holds}
 use Rattle.exact.proofs.Order.{gap, le_by, le_trans}
-use Rattle.exact.proofs.RationalRing.{Coef, number_of, reads}
+use Rattle.exact.proofs.RationalRing.{reads}
 use Rattle.exact.proofs.Strict.{lt_by, positive_known, positive_sum}
 use Rattle.fixed_iv.specs.Extent.{Extent, size}
 use Rattle.fixed_iv.specs.Holds.{Holds}

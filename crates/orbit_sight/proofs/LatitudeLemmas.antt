@@ -3,7 +3,8 @@
 use Rattle.std.proofs.Common.{◌≡◌, ◌∙◌, ap, [], ◌∷◌, ◌-◌, ◌*◌, ◌^◌, pos, negsuc}
 use Rattle.exact.specs.Rational.{ℚ, ratio, neg_ℚ, one_ℚ, zero_ℚ, ◌+ℚ◌, ◌-ℚ◌, ◌*ℚ◌, ◌≤ℚ◌}
 use Rattle.exact.proofs.Bounds.{by_sign, square}
-use Rattle.exact.proofs.Intervals.{Inside, Interval, between, inside, le_on}
+use Rattle.exact.specs.Interval.{Inside, Interval, between}
+use Rattle.exact.proofs.Intervals.{inside, le_on}
 use Rattle.exact.proofs.Order.{gap, known, le_by, ◌⊕◌, ◌⊗◌}
 use Rattle.exact.proofs.RationalRing.{ring, reads}
 use Rattle.sgp4_model.specs.Angle.{IsNear, IsPi, IsSinCos, part}

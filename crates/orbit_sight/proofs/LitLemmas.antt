@@ -4,7 +4,8 @@ use Rattle.std.proofs.lemmas.Int.{ints}
 use Rattle.exact.specs.Rational.{ℚ, ◌+ℚ◌, ◌-ℚ◌, ◌*ℚ◌, ◌^ℚ◌, neg_ℚ, of_int, one_ℚ, ratio, zero_ℚ, ◌≤ℚ◌}
 use Rattle.exact.proofs.Bounds.{square}
 use Rattle.exact.proofs.Integers.{of_int_is, of_int_le, le_of_int}
-use Rattle.exact.proofs.Intervals.{Inside, Interval, between, inside}
+use Rattle.exact.specs.Interval.{Inside, Interval, between}
+use Rattle.exact.proofs.Intervals.{inside}
 use Rattle.exact.proofs.Order.{◌⊕◌, ◌⊗◌, gap, known, le_by, le_trans}
 use Rattle.exact.proofs.RationalRing.{ring, reads}
 use Rattle.fixed_iv.specs.Ends.{in_units}

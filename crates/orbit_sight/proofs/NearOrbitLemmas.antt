@@ -5,7 +5,8 @@ use Rattle.exact.proofs.RationalRing.{Sides, difference, ring, reads}
 use Rattle.exact.proofs.Order.{◌⊕◌, ◌⊗◌, gap, known, le_by, not_negative}
 use Rattle.exact.proofs.Bounds.{by_sign, square}
 use Rattle.exact.proofs.Strict.{Positive, positive_known, positive_sum, le_quotient, quotient_le}
-use Rattle.exact.proofs.Intervals.{AllInside, Inside, Interval, NotBelow0, between, inside, le_on, range}
+use Rattle.exact.specs.Interval.{Inside, Interval, between}
+use Rattle.exact.proofs.Intervals.{AllInside, NotBelow0, inside, le_on, range}
 use Rattle.sgp4_model.specs.Angle.{IsNear, part}
 
 -- ---- the intervals

@@ -3,7 +3,8 @@ use Rattle.std.proofs.Common.{◌≡◌, ◌∙◌, arith, subst, sym, Bool, tru
 use Rattle.std.proofs.lemmas.Int.{ints, by_lt_z}
 use Rattle.exact.specs.Rational.{ℚ, at_least_0, of_int, ratio, neg_ℚ, one_ℚ, zero_ℚ, ◌+ℚ◌, ◌-ℚ◌, ◌*ℚ◌, ◌^ℚ◌, ◌≤ℚ◌, ◌<ℚ◌}
 use Rattle.exact.proofs.Integers.{of_int_is, of_int_le, ratio_is_product}
-use Rattle.exact.proofs.Intervals.{Inside, between, inside, le_on}
+use Rattle.exact.specs.Interval.{Inside, between}
+use Rattle.exact.proofs.Intervals.{inside, le_on}
 use Rattle.exact.proofs.Order.{gap, known, le_by, le_trans, ◌⊕◌, ◌⊗◌}
 use Rattle.exact.proofs.RationalRing.{ring, reads}
 use Rattle.exact.proofs.Strict.{lt_by, positive_known, positive_sum}

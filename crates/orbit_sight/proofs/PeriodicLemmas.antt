@@ -4,7 +4,8 @@ use Rattle.exact.specs.Rational.{ℚ, ◌+ℚ◌, ◌-ℚ◌, ◌*ℚ◌, ◌/�
 use Rattle.exact.proofs.RationalRing.{reads}
 use Rattle.exact.proofs.Order.{◌⊕◌, ◌⊗◌, gap, known, le_by, not_negative}
 use Rattle.exact.proofs.Bounds.{abs_le, abs_not_negative, abs_product, abs_sum, square}
-use Rattle.exact.proofs.Intervals.{Inside, between, inside, le_on}
+use Rattle.exact.specs.Interval.{Inside, between}
+use Rattle.exact.proofs.Intervals.{inside, le_on}
 use Rattle.kepler_enc.specs.Guess.{AreSized}
 use Rattle.sgp4_model.specs.Angle.{IsNear}
 use Rattle.sgp4_model.specs.Numerals.{decimal, whole}

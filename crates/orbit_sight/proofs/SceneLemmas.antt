@@ -5,7 +5,7 @@ use Rattle.std.proofs.Common.{le_refl as nat_refl}
 use Rattle.exact.specs.Rational.{ℚ, ratio, neg_ℚ, one_ℚ, zero_ℚ, ◌+ℚ◌, ◌-ℚ◌, ◌*ℚ◌, ◌≤ℚ◌, ◌<ℚ◌}
 use Rattle.exact.proofs.Bounds.{square}
 use Rattle.exact.proofs.Integers.{of_int_is}
-use Rattle.exact.proofs.Intervals.{Inside, coef_le}
+use Rattle.exact.specs.Interval.{Inside, coef_le}
 use Rattle.exact.proofs.Order.{gap, known, le_by, ◌⊕◌, ◌⊗◌}
 use Rattle.exact.proofs.RationalRing.{reads}
 use Rattle.exact.proofs.Strict.{lt_by, positive_known, positive_sum}

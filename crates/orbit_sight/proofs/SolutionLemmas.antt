@@ -2,7 +2,8 @@
 use Rattle.std.proofs.Common.{◌≡◌, subst, true, [], ◌∷◌, ◌*◌, ◌^◌, ◌-◌, pos, negsuc}
 use Rattle.exact.specs.Rational.{ℚ, abs_ℚ, inverse, ratio, one_ℚ, zero_ℚ, ◌+ℚ◌, ◌-ℚ◌, ◌*ℚ◌, ◌/ℚ◌, ◌^ℚ◌, ◌≤ℚ◌, ◌<ℚ◌}
 use Rattle.exact.proofs.Bounds.{abs_le}
-use Rattle.exact.proofs.Intervals.{Inside, between, inside, le_on}
+use Rattle.exact.specs.Interval.{Inside, between}
+use Rattle.exact.proofs.Intervals.{inside, le_on}
 use Rattle.exact.proofs.Order.{gap, known, le_by, ◌⊕◌, ◌⊗◌}
 use Rattle.exact.proofs.RationalRing.{ring, reads}
 use Rattle.exact.proofs.Strict.{Positive, le_quotient, lt_by, not_zero, positive_known, positive_product, positive_sum, quotient_le}

@@ -4,7 +4,8 @@ use Rattle.std.proofs.lemmas.Int.{ints}
 use Rattle.exact.specs.Rational.{of_int, ratio, zero_ℚ, ◌+ℚ◌, ◌≤ℚ◌}
 use Rattle.exact.proofs.Bounds.{abs_le}
 use Rattle.exact.proofs.Integers.{le_of_int, of_int_add, of_int_is}
-use Rattle.exact.proofs.Intervals.{between, le_on}
+use Rattle.exact.specs.Interval.{between}
+use Rattle.exact.proofs.Intervals.{le_on}
 use Rattle.exact.proofs.Order.{known, le_by, le_trans}
 use Rattle.exact.proofs.RationalRing.{reads}
 use Rattle.elements.specs.Elements.{ElementsRecord}

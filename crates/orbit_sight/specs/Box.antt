@@ -2,8 +2,7 @@
 -- by other means. What the numerals of the constants make of it is a matter of computing.
 use Rattle.std.specs.Prelude.{◌≤◌, T, pos, negsuc}
 use Rattle.exact.specs.Rational.{◌≤ℚ◌}
-use Rattle.exact.proofs.Intervals.{coef_le}
-use Rattle.exact.proofs.RationalRing.{Coef, number_of}
+use Rattle.exact.specs.Interval.{coef_le, Coef, number_of}
 use Rattle.fixed_iv.specs.Reach.{Reach, Reaches, outer, outer_size}
 use Rattle.sgp4_drag.specs.Secular.{reach_ecc, reach_mean}
 use Rattle.sgp4_model.specs.OrbitRecords.{ConstRecord}

@@ -1,7 +1,6 @@
 -- The boxes of the sets that are taken, within seven days of the epoch: perigees of at least 300 km.
 use Rattle.std.specs.Prelude.{ℕ, pos, negsuc, true}
-use Rattle.exact.proofs.Intervals.{between}
-use Rattle.exact.proofs.RationalRing.{Coef}
+use Rattle.exact.specs.Interval.{between, Coef}
 use Rattle.fixed_iv.specs.Reach.{from_to}
 use Rattle.sgp4_periodic.specs.Box.{PositionBox}
 use Rattle.sgp4_periodic.specs.Covered.{PositionReach}

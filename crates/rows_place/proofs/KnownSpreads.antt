@@ -1,7 +1,7 @@
 -- How wide mean elements and positions are at an instant within seven days of the epoch, for the numerals of every set that
 -- is taken. The numerals are not empty: each row says that they hold.
 use Rattle.std.proofs.Common.{pos, negsuc, true}
-use Rattle.exact.proofs.Intervals.{between}
+use Rattle.exact.specs.Interval.{between}
 use Rattle.fixed_iv.specs.Reach.{Reach, Reaches, from_to, given, greater_of, turned, ◌+ᴿ◌, ◌-ᴿ◌, ◌*ᴿ◌, ◌/ᴿ◌}
 use Rattle.fixed_iv.specs.ReachRoots.{rooted}
 use Rattle.kepler_enc.specs.Spread.{ball_of, bettered, betters, guesses, left_first, left_last, left_over, moved, next_left, reach_root, rest_of, root_from, root_of, spread_of, stepped_to, steps}

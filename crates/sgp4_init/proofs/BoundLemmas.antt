@@ -4,7 +4,8 @@ use Rattle.exact.specs.Rational.{ℚ, ratio, zero_ℚ, one_ℚ, ◌+ℚ◌, ◌-
 use Rattle.exact.proofs.RationalRing.{reads}
 use Rattle.exact.proofs.Bounds.{square}
 use Rattle.exact.proofs.Integers.{ratio_neg}
-use Rattle.exact.proofs.Intervals.{Inside, between, inside}
+use Rattle.exact.specs.Interval.{Inside, between}
+use Rattle.exact.proofs.Intervals.{inside}
 use Rattle.exact.proofs.Order.{NonNeg, ◌⊕◌, ◌⊗◌, gap, known, le_by, le_refl}
 use Rattle.sgp4_model.specs.Angle.{IsNear}
 use Rattle.sgp4_model.proofs.Near.{near_weaken}

@@ -2,7 +2,8 @@
 use Rattle.std.proofs.Common.{◌≡◌, sym, ap, ◌∙◌, subst, [], ◌∷◌, arith, Bool, ◌*◌, ◌-◌, ◌^◌, pos, negsuc}
 use Rattle.exact.specs.Rational.{ℚ, ratio, inverse, ◌+ℚ◌, ◌-ℚ◌, ◌*ℚ◌, ◌/ℚ◌, ◌^ℚ◌, neg_ℚ, one_ℚ, zero_ℚ, ◌≤ℚ◌, ◌<ℚ◌}
 use Rattle.exact.proofs.RationalRing.{ring, reads}
-use Rattle.exact.proofs.Intervals.{Inside, between, inside, max_holds, min_holds}
+use Rattle.exact.specs.Interval.{Inside, between}
+use Rattle.exact.proofs.Intervals.{inside, max_holds, min_holds}
 use Rattle.exact.proofs.Order.{known, le_by, le_trans, gap, ◌⊕◌}
 use Rattle.exact.proofs.Strict.{Positive, le_of_lt, le_quotient, mul_inverse, not_zero, positive_gap, positive_known, quotient_le}
 use Rattle.fixed_iv.specs.Extent.{Extent}

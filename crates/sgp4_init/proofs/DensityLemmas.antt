@@ -3,7 +3,8 @@ use Rattle.std.proofs.Common.{◌≡◌, sym, ap, ◌∙◌, subst, [], ◌∷�
 use Rattle.exact.specs.Rational.{ℚ, ratio, inverse, abs_ℚ, ◌+ℚ◌, ◌-ℚ◌, ◌*ℚ◌, ◌/ℚ◌, ◌^ℚ◌, one_ℚ, zero_ℚ, ◌≤ℚ◌}
 use Rattle.exact.proofs.RationalRing.{ring, reads}
 use Rattle.exact.proofs.Bounds.{by_sign}
-use Rattle.exact.proofs.Intervals.{Inside, between, inside}
+use Rattle.exact.specs.Interval.{Inside, between}
+use Rattle.exact.proofs.Intervals.{inside}
 use Rattle.exact.proofs.Order.{NonNeg, ◌⊕◌, ◌⊗◌, gap, known, le_by, le_antisym, le_of_not_negative, not_negative, same_sign}
 use Rattle.exact.proofs.Strict.{Positive, le_of_lt, le_quotient, mul_inverse, not_zero, positive_by, positive_inverse, positive_known, positive_product, positive_sum, positive_weak, quotient_le}
 use Rattle.sgp4_model.specs.Density.{DensityRecord, IsDensityTerms}

@@ -3,7 +3,7 @@ use Rattle.std.proofs.Common.{◌≡◌, ℕ, sym, subst, [], ◌∷◌, ◌*◌
 use Rattle.exact.specs.Rational.{ℚ, ratio, zero_ℚ, one_ℚ, ◌+ℚ◌, ◌-ℚ◌, ◌*ℚ◌, ◌/ℚ◌, ◌≤ℚ◌}
 use Rattle.exact.proofs.RationalRing.{ring, reads}
 use Rattle.exact.proofs.Bounds.{square}
-use Rattle.exact.proofs.Intervals.{Inside, between}
+use Rattle.exact.specs.Interval.{Inside, between}
 use Rattle.exact.proofs.Order.{NonNeg, ◌⊕◌, ◌⊗◌, gap, known, le_by, le_refl, not_negative, same_sign}
 use Rattle.exact.proofs.Strict.{Positive, positive_inverse, positive_known, positive_weak, quotient_le}
 use Rattle.sgp4_model.specs.Angle.{IsNear, part}

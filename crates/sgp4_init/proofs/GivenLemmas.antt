@@ -4,7 +4,8 @@ use Rattle.exact.specs.Rational.{ℚ, ratio, abs_ℚ, ◌+ℚ◌, ◌*ℚ◌, �
 use Rattle.exact.proofs.RationalRing.{ring, reads}
 use Rattle.exact.proofs.Bounds.{le_of_abs}
 use Rattle.exact.proofs.Integers.{of_int_is}
-use Rattle.exact.proofs.Intervals.{Inside, between, inside}
+use Rattle.exact.specs.Interval.{Inside, between}
+use Rattle.exact.proofs.Intervals.{inside}
 use Rattle.exact.proofs.Order.{known, le_by, gap, ◌⊕◌, ◌⊗◌}
 use Rattle.exact.proofs.Strict.{Positive, le_of_lt, le_quotient, lt_of_gap, positive_known, quotient_le}
 use Rattle.decimals.specs.Decimal.{DecimalRecord, value}

@@ -2,7 +2,7 @@
 use Rattle.std.proofs.Common.{◌≡◌, Bool, [], ◌∷◌, pos}
 use Rattle.exact.specs.Rational.{ℚ, ratio, ◌*ℚ◌, ◌≤ℚ◌}
 use Rattle.exact.proofs.RationalRing.{reads}
-use Rattle.exact.proofs.Intervals.{Inside}
+use Rattle.exact.specs.Interval.{Inside}
 use Rattle.exact.proofs.Order.{gap, known, le_by, ◌⊕◌, ◌⊗◌}
 use Rattle.fixed_iv.specs.Extent.{Extent}
 use Rattle.fixed_iv.specs.Place.{Place}

@@ -3,7 +3,7 @@ use Rattle.std.proofs.Common.{arith, refl, ℕ, zero, suc, T, Bool, ℤ, pos, ne
 use Rattle.std.proofs.lemmas.Int.{ints}
 use lib.Signed.{non_neg}
 use Rattle.exact.specs.Rational.{ℚ, ratio}
-use Rattle.exact.proofs.Intervals.{just}
+use Rattle.exact.specs.Interval.{just}
 use Rattle.fixed_iv.specs.Extent.{Extent}
 use Rattle.fixed_iv.specs.Holds.{Holds, IsTightest}
 use Rattle.fixed_iv.specs.Narrow.{IsNarrowConstant}

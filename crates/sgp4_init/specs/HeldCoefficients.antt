@@ -3,7 +3,7 @@ use Rattle.std.specs.Prelude.{◌≡◌, pos, negsuc}
 use Rattle.decimals.specs.Decimal.{value}
 use Rattle.elements.specs.Elements.{ElementsRecord}
 use Rattle.exact.specs.Rational.{◌*ℚ◌}
-use Rattle.exact.proofs.Intervals.{between}
+use Rattle.exact.specs.Interval.{between}
 use Rattle.fixed_iv.specs.Arithmetic.{numerals}
 use Rattle.fixed_iv.specs.Follows.{Encloses}
 use Rattle.fixed_iv.specs.Place.{Place}

@@ -1,7 +1,7 @@
 -- What numerals say of the enclosed terms of the density.
 use Rattle.std.specs.Prelude.{◌≡◌, pos}
 use Rattle.exact.specs.Rational.{ℚ, abs_ℚ, zero_ℚ, ◌/ℚ◌}
-use Rattle.exact.proofs.Intervals.{between}
+use Rattle.exact.specs.Interval.{between}
 use Rattle.fixed_iv.specs.Arithmetic.{numerals}
 use Rattle.fixed_iv.specs.Follows.{Encloses}
 use Rattle.fixed_iv.specs.Place.{Place}

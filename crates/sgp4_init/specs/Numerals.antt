@@ -1,8 +1,7 @@
 -- What numerals say of given numbers.
 use Rattle.std.specs.Prelude.{ℕ, ℤ, ltb, negsuc, pos, pred, ◌&&◌, ◌-ℤ◌, unsigned_abs}
 use Rattle.exact.specs.Rational.{ℚ, ratio, ◌*ℚ◌}
-use Rattle.exact.proofs.Intervals.{coef_max, coef_min, just}
-use Rattle.exact.proofs.RationalRing.{Coef}
+use Rattle.exact.specs.Interval.{coef_max, coef_min, just, Coef}
 use Rattle.fixed_iv.specs.Reach.{Reach, above_0, from_to, is_small, lowest, outer, reach_of, units_above, units_below}
 
 -- the fraction n / d

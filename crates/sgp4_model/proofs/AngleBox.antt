@@ -3,7 +3,8 @@ use Rattle.std.proofs.Common.{List, [], ◌∷◌, pos, negsuc}
 use Rattle.exact.specs.Rational.{ℚ, ratio, ◌≤ℚ◌}
 use Rattle.exact.proofs.RationalRing.{reads}
 use Rattle.exact.proofs.Order.{gap, le_by}
-use Rattle.exact.proofs.Intervals.{Interval, AllInside, inside, between}
+use Rattle.exact.specs.Interval.{Interval, between}
+use Rattle.exact.proofs.Intervals.{AllInside, inside}
 use Rattle.sgp4_model.proofs.Rests.{IsAngle}
 
 -- from -0.7854 to 0.7854

@@ -10,7 +10,7 @@ use Rattle.algebra.specs.Fraction.{Frac, ◌≋◌}
 use Rattle.algebra.proofs.IntRing.{ring_ℤ, reads_ℤ}
 use Rattle.exact.specs.Rational.{ℚ, number, ◌+ℚ◌, of_int, ratio, one_ℚ, ◌≤ℚ◌}
 use Rattle.exact.proofs.RationalLaws.{for_all₁}
-use Rattle.exact.proofs.Intervals.{floor}
+use Rattle.exact.specs.Interval.{floor}
 use Rattle.exact.proofs.Integers.{of_int_add, of_int_is}
 use Rattle.exact.proofs.Fractions.{le_of_cross, cross_of_le, equal_of_cross}
 use Rattle.sgp4_model.proofs.PairLaws.{ordered}

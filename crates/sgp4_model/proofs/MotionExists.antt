@@ -5,7 +5,8 @@ use Rattle.exact.proofs.RationalRing.{ring, reads}
 use Rattle.exact.proofs.Order.{◌⊕◌, ◌⊗◌, gap, known, le_by, not_negative}
 use Rattle.exact.proofs.Bounds.{by_sign, square}
 use Rattle.exact.proofs.Strict.{Positive, positive_sum, positive_known, positive_inverse, positive_product, positive_gap, not_zero, le_quotient, quotient_le, lt_by, le_of_lt}
-use Rattle.exact.proofs.Intervals.{le_on, between, inside}
+use Rattle.exact.specs.Interval.{between}
+use Rattle.exact.proofs.Intervals.{le_on, inside}
 use Rattle.sgp4_model.specs.Angle.{IsPi, IsNear, IsSinCos, part}
 use Rattle.sgp4_model.specs.Degrees.{radians}
 use Rattle.sgp4_model.specs.MeanMotion.{MotionRecord, RecoversMotion, IsMotionRecovered}

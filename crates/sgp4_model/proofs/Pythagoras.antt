@@ -4,7 +4,8 @@ use Rattle.exact.specs.Rational.{ℚ, ◌+ℚ◌, ◌-ℚ◌, ◌*ℚ◌, ratio,
 use Rattle.exact.proofs.RationalRing.{ring, reads}
 use Rattle.exact.proofs.Order.{◌⊕◌, ◌⊗◌, gap, le_by}
 use Rattle.exact.proofs.Bounds.{square}
-use Rattle.exact.proofs.Intervals.{le_on, inside, between}
+use Rattle.exact.specs.Interval.{between}
+use Rattle.exact.proofs.Intervals.{le_on, inside}
 use Rattle.sgp4_model.specs.AngleSums.{sine_sum, cosine_sum}
 use Rattle.sgp4_model.specs.Angle.{IsNear, Pair, quadrant, turned, part}
 use Rattle.sgp4_model.specs.PairLaws.{SquaresAddUpToOne, SinePairsAreBounded}

@@ -7,7 +7,7 @@ use Rattle.exact.specs.Rational.{ℚ, glue, ratio, of_int, inverse, ◌*ℚ◌, 
 use Rattle.exact.proofs.RationalRing.{reads}
 use Rattle.exact.proofs.Order.{le_by, gap, known, ◌⊗◌}
 use Rattle.exact.proofs.Integers.{of_int_add, of_int_is, of_int_le, ratio_is_product}
-use Rattle.exact.proofs.Intervals.{Interval, Inside}
+use Rattle.exact.specs.Interval.{Interval, Inside}
 use Rattle.decimals.specs.Decimal.{DecimalRecord, IsDecimal, value}
 use Rattle.decimals.specs.OrderLaws.{not_le}
 use Rattle.decimals.proofs.UnitsLemmas.{product_in_code, ten_pow_fits, ten_pow_pos}

@@ -4,7 +4,8 @@ use Rattle.exact.specs.Rational.{ℚ, ratio, inverse, ◌+ℚ◌, ◌-ℚ◌, �
 use Rattle.exact.proofs.RationalRing.{ring, reads}
 use Rattle.exact.proofs.Order.{le_by, gap, known, ◌⊕◌, ◌⊗◌}
 use Rattle.exact.proofs.Strict.{Positive, le_quotient, lt_of_gap, mul_inverse, not_zero, positive_known, positive_product, positive_sum, quotient_le}
-use Rattle.exact.proofs.Intervals.{Inside, between, inside}
+use Rattle.exact.specs.Interval.{Inside, between}
+use Rattle.exact.proofs.Intervals.{inside}
 use Rattle.sgp4_model.specs.Angle.{IsPi}
 use Rattle.sgp4_model.specs.Degrees.{radians}
 use Rattle.sgp4_model.specs.Numerals.{decimal, whole}

@@ -12,7 +12,7 @@ use Rattle.fixed_iv.specs.Holds.{Holds}
 use Rattle.fixed_iv.specs.Reach.{IsKnown}
 use Rattle.fixed_iv.specs.declared.iv.Iv.{Iv}
 use Rattle.fixed_iv.proofs.OuterLemmas.{width_is}
-use Rattle.exact.proofs.Intervals.{Interval}
+use Rattle.exact.specs.Interval.{Interval}
 use Rattle.sgp4_model.specs.Numerals.{decimal, whole}
 use Rattle.sgp4_shape.specs.Covering.{unit_minutes}
 use Rattle.sgp4_motion.specs.Fate.{low_perigee_km}

@@ -4,7 +4,8 @@ use Rattle.exact.specs.Rational.{ℚ, ratio, inverse, ◌-ℚ◌, ◌*ℚ◌, �
 use Rattle.exact.proofs.RationalRing.{ring, reads}
 use Rattle.exact.proofs.Order.{NonNeg, le_by, le_of_gap, le_trans, same_sign, gap, known, ◌⊕◌, ◌⊗◌}
 use Rattle.exact.proofs.Bounds.{by_sign, square}
-use Rattle.exact.proofs.Intervals.{Inside, inside}
+use Rattle.exact.specs.Interval.{Inside}
+use Rattle.exact.proofs.Intervals.{inside}
 use Rattle.exact.proofs.Strict.{Positive, le_of_lt, mul_inverse, not_zero, positive_known, positive_weak, quotient_le}
 use Rattle.fixed_iv.specs.Place.{Place}
 use Rattle.fixed_iv.specs.declared.enc.Enc.{Ghosts}

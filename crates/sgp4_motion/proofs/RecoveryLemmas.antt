@@ -6,7 +6,8 @@ use Rattle.exact.proofs.Order.{le_by, gap, known, ◌⊕◌, ◌⊗◌}
 use Rattle.exact.proofs.Bounds.{square}
 use Rattle.exact.proofs.Integers.{of_int_is}
 use Rattle.exact.proofs.Strict.{mul_inverse}
-use Rattle.exact.proofs.Intervals.{Inside, between, inside}
+use Rattle.exact.specs.Interval.{Inside, between}
+use Rattle.exact.proofs.Intervals.{inside}
 use Rattle.sgp4_model.specs.Angle.{IsNear, IsPi, IsSinCos, part}
 use Rattle.sgp4_model.specs.Numerals.{whole}
 use Rattle.sgp4_model.specs.Wgs72.{ke}

@@ -1,6 +1,6 @@
 -- What is known of the exact quantities of a position, beyond what numerals of its constants and mean elements say.
 use Rattle.std.specs.Prelude.{Bool, ℕ}
-use Rattle.exact.proofs.Intervals.{Inside, Interval}
+use Rattle.exact.specs.Interval.{Inside, Interval}
 use Rattle.kepler_enc.specs.Guess.{AreSized}
 use Rattle.sgp4_model.specs.Position.{PeriodicRecord}
 

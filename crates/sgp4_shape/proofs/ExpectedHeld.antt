@@ -1,7 +1,7 @@
 -- A range that is known by other means holds of what is held.
 use Rattle.std.proofs.Common.{Bool, false, T, pos}
 use Rattle.exact.specs.Rational.{ℚ}
-use Rattle.exact.proofs.Intervals.{Inside, Interval}
+use Rattle.exact.specs.Interval.{Inside, Interval}
 use Rattle.fixed_iv.specs.Extent.{Extent}
 use Rattle.fixed_iv.specs.Place.{Place}
 use Rattle.fixed_iv.specs.Reach.{IsHeld, Reach}

@@ -1,7 +1,7 @@
 -- Numerals with a range that is known by other means, where anything is.
 use Rattle.std.specs.Prelude.{Bool, ◌&&◌, T}
 use Rattle.exact.specs.Rational.{◌*ℚ◌}
-use Rattle.exact.proofs.Intervals.{Inside, Interval}
+use Rattle.exact.specs.Interval.{Inside, Interval}
 use Rattle.fixed_iv.specs.Reach.{Reach}
 use Rattle.sgp4_model.specs.OrbitRecords.{ConstRecord}
 

@@ -4,7 +4,7 @@ use Rattle.std.proofs.lemmas.Bool.Decides.{nat_tests}
 use Rattle.exact.specs.Rational.{ℚ, ◌+ℚ◌, ◌-ℚ◌, ◌*ℚ◌, ◌≤ℚ◌}
 use Rattle.exact.proofs.Order.{gap, known, le_by}
 use Rattle.exact.proofs.RationalRing.{reads}
-use Rattle.exact.proofs.Intervals.{Inside}
+use Rattle.exact.specs.Interval.{Inside}
 use Rattle.decimals.specs.Decimal.{value}
 use Rattle.fixed_iv.specs.Extent.{extent_of}
 use Rattle.fixed_iv.specs.Follows.{Encloses}

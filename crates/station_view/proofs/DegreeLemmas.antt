@@ -10,7 +10,8 @@ use Rattle.exact.proofs.Order.{le_by, le_trans, le_refl, gap, known, ◌⊕◌, 
 use Rattle.exact.proofs.Bounds.{abs_le}
 use Rattle.exact.proofs.Strict.{le_of_lt}
 use Rattle.exact.proofs.Integers.{le_of_int, of_int_le, of_int_add, of_int_is}
-use Rattle.exact.proofs.Intervals.{between, inside}
+use Rattle.exact.specs.Interval.{between}
+use Rattle.exact.proofs.Intervals.{inside}
 use Rattle.decimals.specs.Decimal.{DecimalRecord, IsDecimal, value}
 use Rattle.decimals.proofs.UnitsLemmas.{ten_pow_fits, ten_pow_pos}
 use Rattle.elements.specs.Elements.{IsFromTo}

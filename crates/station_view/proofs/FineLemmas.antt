@@ -5,7 +5,8 @@ use Rattle.exact.proofs.RationalRing.{reads}
 use Rattle.exact.proofs.Order.{gap, known, le_by, le_refl, le_trans, ◌⊕◌}
 use Rattle.exact.proofs.Bounds.{le_total, square}
 use Rattle.exact.proofs.Integers.{of_int_mul, ratio_is_product, ratio_neg}
-use Rattle.exact.proofs.Intervals.{Inside, inside}
+use Rattle.exact.specs.Interval.{Inside}
+use Rattle.exact.proofs.Intervals.{inside}
 use Rattle.decimals.specs.Decimal.{value}
 use Rattle.fixed_iv.specs.Place.{Place}
 use Rattle.fixed_iv.specs.declared.enc.Enc.{Ghosts}

@@ -4,7 +4,8 @@ use Rattle.exact.specs.Rational.{ℚ, ◌+ℚ◌, ◌*ℚ◌, ◌/ℚ◌, ◌^�
 use Rattle.exact.proofs.RationalRing.{ring, reads}
 use Rattle.exact.proofs.Order.{NonNeg, gap, known, le_by, le_trans, same_sign, ◌⊕◌, ◌⊗◌}
 use Rattle.exact.proofs.Bounds.{square}
-use Rattle.exact.proofs.Intervals.{Inside, Interval, between, inside}
+use Rattle.exact.specs.Interval.{Inside, Interval, between}
+use Rattle.exact.proofs.Intervals.{inside}
 use Rattle.exact.proofs.Strict.{not_both, not_zero, positive_known}
 use Rattle.fixed_iv.specs.Extent.{extent_of}
 use Rattle.fixed_iv.specs.Holds.{Holds}

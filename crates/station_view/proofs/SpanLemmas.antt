@@ -5,7 +5,8 @@ use Rattle.exact.proofs.RationalRing.{ring, reads}
 use Rattle.exact.proofs.Order.{NonNeg, gap, known, le_by, le_trans, same_sign, ◌⊕◌, ◌⊗◌}
 use Rattle.exact.proofs.Bounds.{square}
 use Rattle.exact.proofs.Integers.{of_int_add, of_int_is, of_int_mul, ratio_is_product, ratio_neg}
-use Rattle.exact.proofs.Intervals.{Inside, inside}
+use Rattle.exact.specs.Interval.{Inside}
+use Rattle.exact.proofs.Intervals.{inside}
 use Rattle.exact.proofs.Strict.{Positive, not_both, not_zero, positive_by, positive_known}
 use Rattle.fixed_iv.specs.Place.{Place}
 use Rattle.fixed_iv.specs.declared.enc.Enc.{Ghosts}

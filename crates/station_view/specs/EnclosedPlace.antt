@@ -1,7 +1,7 @@
 -- What a station keeps of its place.
 use Rattle.std.specs.Prelude.{◌^◌, negsuc, pos}
 use Rattle.exact.specs.Rational.{ℚ}
-use Rattle.exact.proofs.Intervals.{Interval, between}
+use Rattle.exact.specs.Interval.{Interval, between}
 use Rattle.fixed_iv.specs.Reach.{IsGiven}
 use Rattle.fixed_iv.specs.declared.iv.Iv.{Iv}
 use Rattle.fixed_iv.specs.declared.vec3.Vec3.{Vec3}

@@ -1,7 +1,7 @@
 -- What an enclosed place of a station covers, and its numerals.
 use Rattle.std.specs.Prelude.{◌^◌, pos, negsuc}
 use Rattle.exact.specs.Rational.{ℚ, ◌+ℚ◌, ◌*ℚ◌, ◌/ℚ◌, one_ℚ}
-use Rattle.exact.proofs.Intervals.{Interval, between}
+use Rattle.exact.specs.Interval.{Interval, between}
 use Rattle.earth_frame.specs.HeldVector.{VectorReach}
 use Rattle.fixed_iv.specs.Follows.{Encloses}
 use Rattle.fixed_iv.specs.Place.{Place}

@@ -1,7 +1,7 @@
 -- What an enclosed direction covers, and its numerals.
 use Rattle.std.specs.Prelude.{◌^◌, pos, negsuc, true}
 use Rattle.exact.specs.Rational.{ratio, ◌<ℚ◌}
-use Rattle.exact.proofs.Intervals.{Interval}
+use Rattle.exact.specs.Interval.{Interval}
 use Rattle.earth_frame.specs.HeldVector.{VectorReach, rotated}
 use Rattle.fixed_iv.specs.Follows.{Encloses}
 use Rattle.fixed_iv.specs.Place.{Place}

@@ -1,6 +1,6 @@
 -- What a station, the Earth's turn and a position give: the vector from the one to the other, and its direction.
 use Rattle.exact.specs.Rational.{ℚ}
-use Rattle.exact.proofs.Intervals.{Inside, Interval}
+use Rattle.exact.specs.Interval.{Inside, Interval}
 use Rattle.earth_frame.specs.Covered.{CoversVector}
 use Rattle.earth_frame.specs.HeldVector.{VectorReach}
 use Rattle.earth_frame.specs.declared.rotation.Turn.{Turn}

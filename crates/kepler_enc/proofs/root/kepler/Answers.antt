@@ -1,6 +1,6 @@
 use Rattle.std.proofs.Common.{arith, ◌+◌, ◌≤◌, le_trans as nat_trans}
 use Rattle.exact.specs.Rational.{ℚ}
-use Rattle.exact.proofs.Intervals.{Inside}
+use Rattle.exact.specs.Interval.{Inside}
 use Rattle.fixed_iv.specs.Holds.{Holds, IsBounded}
 use Rattle.fixed_iv.specs.Reach.{nothing, outer}
 use Rattle.fixed_iv.proofs.Held.{covered}

@@ -1,6 +1,6 @@
 use Rattle.std.proofs.Common.{pos}
 use Rattle.exact.specs.Rational.{◌≤ℚ◌, ◌<ℚ◌}
-use Rattle.exact.proofs.Intervals.{between}
+use Rattle.exact.specs.Interval.{between}
 use Rattle.decimals.specs.OrderLaws.{lt_of_not_le}
 use Rattle.fixed_iv.proofs.Held.{claim_held, held_at}
 use Rattle.fixed_iv.proofs.Promises.{product}

@@ -1,5 +1,5 @@
 use Rattle.std.proofs.Common.{pos, negsuc}
-use Rattle.exact.proofs.Intervals.{between}
+use Rattle.exact.specs.Interval.{between}
 use Rattle.fixed_iv.proofs.Held.{claim_held, held_at}
 use Rattle.fixed_iv.proofs.Promises.{quotient, sum}
 use Rattle.sgp4_init.proofs.CoefficientLemmas.{aycof_is, delmo_is, nodecf_is, sum_inside, t2cof_is, tangent_inside, xlcof_is}

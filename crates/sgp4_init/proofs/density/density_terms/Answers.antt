@@ -1,5 +1,5 @@
 use Rattle.std.proofs.Common.{pos}
-use Rattle.exact.proofs.Intervals.{between}
+use Rattle.exact.specs.Interval.{between}
 use Rattle.fixed_iv.proofs.Held.{claim_held, held_at}
 use Rattle.fixed_iv.proofs.Promises.{product, quotient, sum}
 use Rattle.sgp4_init.proofs.DensityLemmas.{above_divides, coef1_is, coef_is, eta_inside, eta_is, low_divides, psi_is, root_divides, root_inside, share_inside, sum_divides, xi_is, xp_is}

@@ -1,5 +1,5 @@
 use Rattle.std.proofs.Common.{pos, negsuc}
-use Rattle.exact.proofs.Intervals.{between}
+use Rattle.exact.specs.Interval.{between}
 use Rattle.fixed_iv.proofs.Held.{claim_held, held_at}
 use Rattle.fixed_iv.proofs.Promises.{product, sum}
 use Rattle.sgp4_init.proofs.DragClaimLemmas.{c2_inside, c4_inside}

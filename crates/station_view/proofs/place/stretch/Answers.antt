@@ -1,5 +1,5 @@
 use Rattle.std.proofs.Common.{pos}
-use Rattle.exact.proofs.Intervals.{between}
+use Rattle.exact.specs.Interval.{between}
 use Rattle.fixed_iv.specs.Reach.{given, ◌+ᴿ◌, ◌*ᴿ◌, ◌/ᴿ◌}
 use Rattle.fixed_iv.specs.ReachRoots.{rooted}
 use Rattle.fixed_iv.proofs.Held.{claim_held, constant_held, plus_held, times_held, within}
