@@ -1,7 +1,7 @@
 -- One element set for each satellite: that whose epoch is nearest to an instant.
 use Rattle.std.specs.Prelude.{ℕ, ◌==◌, nat_le, not, Bool, List, [], ◌∷◌, filter, filter_map, find, Option, ℤ, ◌-ℤ◌, unsigned_abs, Result, Ok}
 use Rattle.std.specs.List.{list_all}
-use Rattle.omm_kvn.specs.Steps.{◌>>=◌}
+use Rattle.elements.specs.Steps.{◌>>=◌}
 use Rattle.catalogue.specs.declared.entry.Entry.{Entry}
 use Rattle.catalogue.specs.declared.fault.CatFault.{CatFault}
 use Rattle.catalogue.specs.Entries.{numbers}

@@ -1,6 +1,6 @@
 -- The element sets of a file in the order of its lines, or its first fault.
 use Rattle.std.specs.Prelude.{ℕ, nat_lt, List, [], ◌∷◌, length, take, Result, Ok, Err, if◌then◌else◌}
-use Rattle.omm_kvn.specs.Steps.{◌>>=◌}
+use Rattle.elements.specs.Steps.{◌>>=◌}
 use Rattle.catalogue.specs.declared.entry.Entry.{Entry}
 use Rattle.catalogue.specs.declared.fault.CatFault.{CatFault}
 use Rattle.catalogue.specs.declared.fault.CatFault.TheVariants.{Empty, TooMany}

@@ -6,7 +6,8 @@ use Rattle.exact.specs.Rational.{ℚ, ◌+ℚ◌, ◌*ℚ◌, of_int, ratio}
 use Rattle.exact.proofs.RationalRing.{ring, reads}
 use Rattle.exact.proofs.Integers.{of_int_add, of_int_mul, of_int_is, ratio_is_product}
 use Rattle.sgp4_model.specs.Sidereal.{in_ut1}
-use Rattle.earth_frame.specs.Offset.{IsNearInstant, IsOffset, ut1_nanos}
+use Rattle.elements.specs.Offset.{IsOffset}
+use Rattle.earth_frame.specs.Offset.{IsNearInstant, ut1_nanos}
 use Rattle.earth_frame.specs.Over.{instant_after}
 
 -- the offset goes into the base

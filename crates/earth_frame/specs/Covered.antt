@@ -1,15 +1,7 @@
--- What an enclosure covers of a vector, and of an angle from which whole turns were taken off.
+-- What an enclosure covers of an angle from which whole turns were taken off.
 use Rattle.std.specs.Prelude.{ℤ, pos}
 use Rattle.exact.specs.Rational.{ℚ, ◌-ℚ◌, ◌*ℚ◌, ratio, of_int}
 use Rattle.fixed_iv.specs.Place.{Place}
-use Rattle.fixed_iv.specs.declared.vec3.Vec3.{Vec3}
-use Rattle.sgp4_model.specs.Vector.{Vector}
-
--- each component is covered
-pub record CoversVector {A : Type 0} (covers : A → Place → ℚ → Type 0) (v : Vec3 A) (h : Place) (vector : Vector) : Type 0 where
-  pub x : covers v.x h vector.x
-  pub y : covers v.y h vector.y
-  pub z : covers v.z h vector.z
 
 -- the angle in radians less some whole turns is covered
 pub record CoversAngle {A : Type 0} (covers : A → Place → ℚ → Type 0) (a : A) (h : Place) (pi angle : ℚ) : Type 0 where

@@ -2,6 +2,7 @@
 use Rattle.std.specs.Prelude.{Bool}
 use Rattle.exact.specs.Rational.{ℚ}
 use Rattle.fixed_iv.specs.Extent.{Extent}
+use Rattle.fixed_iv.specs.EnclosedVector.{CoversVector, IsHeldVector, VectorReach}
 use Rattle.fixed_iv.specs.Place.{Place}
 use Rattle.fixed_iv.specs.Reach.{Reach, IsHeld, ◌+ᴿ◌, ◌*ᴿ◌, negative}
 use Rattle.fixed_iv.specs.declared.vec3.Vec3.{Vec3}
@@ -9,19 +10,6 @@ use Rattle.fixed_iv.specs.declared.enc.Enc.{Ghosts}
 use Rattle.sgp4_model.specs.Angle.{Pair}
 use Rattle.sgp4_model.specs.Sidereal.{earth_fixed}
 use Rattle.sgp4_model.specs.Vector.{Vector}
-use Rattle.earth_frame.specs.Covered.{CoversVector}
-
--- numerals for each component
-pub record VectorReach : Type 0 where
-  pub x : Reach
-  pub y : Reach
-  pub z : Reach
-
--- each component is covered, and its enclosure is as its numerals say
-pub record IsHeldVector {A : Type 0} (covers : A → Place → ℚ → Type 0) (extent : A → Extent) (told : Bool) (v : Vec3 A) (h : Place) (vector : Vector) (r : VectorReach) : Type 0 where
-  pub x : IsHeld covers extent told v.x h vector.x r.x
-  pub y : IsHeld covers extent told v.y h vector.y r.y
-  pub z : IsHeld covers extent told v.z h vector.z r.z
 
 -- numerals for the rotated vector, from those of the sine, of the cosine and of the vector
 abbrev pub rotated : Reach → Reach → VectorReach → VectorReach

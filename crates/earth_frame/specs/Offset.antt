@@ -2,11 +2,6 @@
 use Rattle.std.specs.Prelude.{ℤ, pos, neg_ℤ, ◌+ℤ◌, ◌-ℤ◌, ◌*ℤ◌, ◌≤ℤ◌}
 use Rattle.civil_time.specs.Scale.{first_instant, last_instant}
 
--- an offset that is taken: from -900 to 900 milliseconds
-pub record IsOffset (dut1 : ℤ) : Type 0 where
-  pub low : neg_ℤ (pos 900) ≤ℤ dut1
-  pub high : dut1 ≤ℤ pos 900
-
 -- the nanoseconds of UT1 at so many of UTC
 abbrev pub ut1_nanos : ℤ → ℤ → ℤ
 ut1_nanos dut1 nanos = nanos +ℤ dut1 *ℤ pos 1000000

@@ -10,7 +10,8 @@ use Rattle.sgp4_model.specs.Angle.{IsPi, Pair}
 use Rattle.sgp4_model.specs.Degrees.{IsPairOfDegrees, radians}
 use Rattle.sgp4_model.specs.Sun.{IsSun, days, obliquity, sun_longitude, sun_mean_anomaly, sun_mean_longitude}
 use Rattle.sgp4_model.specs.Vector.{Vector}
-use Rattle.earth_frame.specs.Covered.{CoversAngle, CoversVector}
+use Rattle.fixed_iv.specs.EnclosedVector.{CoversVector}
+use Rattle.earth_frame.specs.Covered.{CoversAngle}
 use Rattle.earth_frame.specs.Over.{instant_after}
 
 -- each direction of the Sun at the instant is covered

@@ -7,7 +7,7 @@ use Rattle.exact.specs.Rational.{ℚ, of_int, ratio, ◌*ℚ◌, ◌≤ℚ◌}
 use Rattle.exact.proofs.RationalRing.{reads}
 use Rattle.exact.proofs.Order.{gap, known, le_by, le_trans, ◌⊗◌}
 use Rattle.exact.proofs.Integers.{le_of_int, of_int_is, of_int_le, of_int_neg, ratio_is_product}
-use Rattle.fixed_iv.specs.Steps.{IsCutHigh, IsCutLow}
+use Rattle.fixed_iv.specs.Corners.{IsCutHigh, IsCutLow}
 use Rattle.fixed_iv.specs.Ends.{IsHighEnd, IsLowEnd}
 use Rattle.fixed_iv.specs.Rounding.{IsCeiling, IsFloor}
 

@@ -5,7 +5,7 @@ use Rattle.exact.specs.Rational.{ℚ, of_int, ◌*ℚ◌, zero_ℚ, ◌≤ℚ◌
 use Rattle.exact.proofs.RationalRing.{reads}
 use Rattle.exact.proofs.Order.{gap, known, le_by, ◌⊕◌, ◌⊗◌}
 use Rattle.exact.proofs.Integers.{of_int_is, of_int_le, of_int_mul, le_of_int}
-use Rattle.fixed_iv.specs.Steps.{IsBySign, IsHighCorner, IsLowCorner}
+use Rattle.fixed_iv.specs.Corners.{IsBySign, IsHighCorner, IsLowCorner}
 use Rattle.fixed_iv.specs.declared.iv.Iv.{Iv}
 use Rattle.fixed_iv.proofs.MinMaxLemmas.{IsGreatest, IsLeast}
 

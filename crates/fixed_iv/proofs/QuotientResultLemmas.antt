@@ -6,7 +6,7 @@ use Rattle.exact.proofs.RationalRing.{ring, reads}
 use Rattle.exact.proofs.Order.{gap, le_by}
 use Rattle.exact.proofs.Strict.{Positive, mul_inverse, not_zero}
 use Rattle.exact.proofs.Integers.{of_int_is, of_int_neg, of_int_le, le_of_int}
-use Rattle.fixed_iv.specs.Steps.{IsQuotientBetween}
+use Rattle.fixed_iv.specs.Corners.{IsQuotientBetween}
 use Rattle.fixed_iv.specs.Ends.{in_units}
 use Rattle.fixed_iv.specs.Holds.{Holds, IsBounded, IsTightest}
 use Rattle.fixed_iv.specs.Results.{IsResultOf, IsQuotient}

@@ -17,7 +17,7 @@ use Rattle.omm_kvn.specs.Keys.{is_same, place_of}
 use Rattle.omm_kvn.specs.Kinds.{kind_of}
 use Rattle.omm_kvn.specs.Lines.{kinds, kinds_from}
 use Rattle.omm_kvn.specs.Places.{Places}
-use Rattle.omm_kvn.specs.Steps.{◌>>=◌}
+use Rattle.elements.specs.Steps.{◌>>=◌}
 use Rattle.omm_kvn.proofs.LineLemmas.{is_end, kinds-at, kinds-whole}
 
 -- the places with those of the lines from this number on, or the first fault

@@ -11,5 +11,4 @@ pub mod Numbers
 pub mod Pieces
 pub mod Places
 pub mod Ranges
-pub mod Steps
 pub mod Units

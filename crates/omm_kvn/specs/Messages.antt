@@ -11,7 +11,7 @@ use Rattle.omm_kvn.specs.Entries.{entries}
 use Rattle.omm_kvn.specs.Needed.{of_header, may_pass, is_type}
 use Rattle.omm_kvn.specs.Numbers.{epoch_given, number_given, orbit_given, decimal_given}
 use Rattle.omm_kvn.specs.Places.{Places}
-use Rattle.omm_kvn.specs.Steps.{◌>>=◌}
+use Rattle.elements.specs.Steps.{◌>>=◌}
 
 -- the element set of these numbers
 abbrev pub elements_of : ℕ → ℤ → Orbit → DecimalRecord → ElementsRecord

@@ -7,7 +7,7 @@ use Rattle.omm_kvn.specs.declared.key.Key.{Key}
 use Rattle.omm_kvn.specs.declared.key.Key.TheVariants.{Version, Centre, Frame, TimeSystem, Theory}
 use Rattle.omm_kvn.specs.declared.place.Place.{Place}
 use Rattle.omm_kvn.specs.Places.{Places, bytes_at}
-use Rattle.omm_kvn.specs.Steps.{◌>>=◌}
+use Rattle.elements.specs.Steps.{◌>>=◌}
 
 -- the place of a key's value, which must be there
 abbrev pub needed : Key → Option Place → Result Place OmmFault

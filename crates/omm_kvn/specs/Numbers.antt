@@ -4,6 +4,7 @@ use Rattle.exact.specs.Rational.{ℚ, at_least_0, of_int, ◌-ℚ◌}
 use Rattle.civil_time.specs.Utc.{utc_value}
 use Rattle.civil_time.specs.declared.fault.TimeFault.{TimeFault}
 use Rattle.decimals.specs.Decimal.{DecimalRecord, value}
+use Rattle.elements.specs.Ranges.{at_most, below, is_from_to}
 use Rattle.decimals.specs.DecimalText.{decimal_value}
 use Rattle.decimals.specs.declared.fault.NumFault.{NumFault}
 use Rattle.omm_kvn.specs.declared.fault.OmmFault.{OmmFault}
@@ -14,7 +15,7 @@ use Rattle.omm_kvn.specs.declared.orbit.Orbit.{Orbit}
 use Rattle.omm_kvn.specs.Digits.{short_number}
 use Rattle.omm_kvn.specs.Needed.{needed}
 use Rattle.omm_kvn.specs.Places.{Places, bytes_at}
-use Rattle.omm_kvn.specs.Steps.{◌>>=◌}
+use Rattle.elements.specs.Steps.{◌>>=◌}
 use Rattle.omm_kvn.specs.Units.{without_unit}
 
 -- what was read, or else a fault of this key's value
@@ -34,25 +35,13 @@ number_read key None = Err (faults.Value key)
 abbrev pub in_range : Key → Bool → DecimalRecord → Result DecimalRecord OmmFault
 in_range key holds number = if holds then Ok number else Err (faults.Value key)
 
--- a number is at most another one
-abbrev pub is_at_most : ℚ → ℚ → Bool
-is_at_most x y = at_least_0 (y -ℚ x)
-
--- and below another one
-abbrev pub is_below : ℚ → ℚ → Bool
-is_below x y = not (at_least_0 (x -ℚ y))
-
 -- a mean motion is above 0 and below 100
 abbrev pub is_motion : DecimalRecord → Bool
-is_motion number = is_below (of_int (pos 0)) (value number) && is_below (value number) (of_int (pos 100))
+is_motion number = below (of_int (pos 0)) (value number) && below (value number) (of_int (pos 100))
 
 -- an eccentricity is at least 0 and below 1
 abbrev pub is_ecc : DecimalRecord → Bool
-is_ecc number = is_at_most (of_int (pos 0)) (value number) && is_below (value number) (of_int (pos 1))
-
--- an angle is from one whole number to another
-abbrev pub is_between : ℤ → ℤ → DecimalRecord → Bool
-is_between low high number = is_at_most (of_int low) (value number) && is_at_most (value number) (of_int high)
+is_ecc number = at_most (of_int (pos 0)) (value number) && below (value number) (of_int (pos 1))
 
 -- the epoch, which a key must give
 unfoldable pub epoch_given : List ℕ → Places → Result ℤ OmmFault
@@ -83,8 +72,8 @@ unfoldable pub orbit_given : List ℕ → Places → Result Orbit OmmFault
 orbit_given text places = do
   motion ← given_where is_motion Motion text places
   ecc ← given_where is_ecc Ecc text places
-  incl ← given_where (is_between (pos 0) (pos 180)) Incl text places
-  node ← given_where (is_between (neg_ℤ (pos 360)) (pos 360)) Node text places
-  argp ← given_where (is_between (neg_ℤ (pos 360)) (pos 360)) Argp text places
-  anomaly ← given_where (is_between (neg_ℤ (pos 360)) (pos 360)) Anomaly text places
+  incl ← given_where (is_from_to (pos 0) (pos 180)) Incl text places
+  node ← given_where (is_from_to (neg_ℤ (pos 360)) (pos 360)) Node text places
+  argp ← given_where (is_from_to (neg_ℤ (pos 360)) (pos 360)) Argp text places
+  anomaly ← given_where (is_from_to (neg_ℤ (pos 360)) (pos 360)) Anomaly text places
   Ok (record { motion = motion; ecc = ecc; incl = incl; node = node; argp = argp; anomaly = anomaly })

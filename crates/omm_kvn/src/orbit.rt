@@ -36,7 +36,7 @@ fn is_above(number: Decimal, low: i32) -> bool
 
 /// Whether a number is below a whole number.
 #[tactic(auto, using(decimals::proofs::UnitsLemmas::value_whole))]
-fn is_below(number: Decimal, high: i32) -> bool
+fn below(number: Decimal, high: i32) -> bool
     ensures value { result ≡ spec.is_below (value number) (of_int high) }
     ensures below { IsTrue result → value number <ℚ of_int high }
 {
@@ -57,7 +57,7 @@ fn is_motion(number: Decimal) -> bool
     ensures value { result ≡ spec.is_motion number }
     ensures above { IsTrue result → of_int (pos 0) <ℚ value number }
 {
-    is_above(number, 0) && is_below(number, 100)
+    is_above(number, 0) && below(number, 100)
 }
 
 /// Whether a number is at least 0 and below 1.
@@ -66,11 +66,11 @@ fn is_ecc(number: Decimal) -> bool
     ensures least { IsTrue result → of_int (pos 0) ≤ℚ value number }
     ensures below { IsTrue result → value number <ℚ of_int (pos 1) }
 {
-    is_at_least(number, 0) && is_below(number, 1)
+    is_at_least(number, 0) && below(number, 1)
 }
 
 /// Whether a number lies between two whole numbers, both included.
-fn is_between(number: Decimal, low: i32, high: i32) -> bool
+fn is_from_to(number: Decimal, low: i32, high: i32) -> bool
     ensures value { result ≡ spec.is_between low high number }
     ensures range { IsTrue result → IsFromTo low high (value number) }
 {
@@ -123,7 +123,7 @@ fn angle_given(
     ensures range { IfOk result (λ d. IsFromTo low high (value d)) }
 {
     let number = decimal_given(text, found, key)?;
-    in_range(key, is_between(number, low, high), number)
+    in_range(key, is_from_to(number, low, high), number)
 }
 
 /// The mean motion, the eccentricity and the angles.

@@ -16,7 +16,7 @@ use Rattle.sgp4_model.specs.Position.{IsPosition}
 use Rattle.sgp4_model.specs.PositionAt.{IsPositionAt}
 use Rattle.sgp4_model.specs.Time.{instant_of_nanos}
 use Rattle.sgp4_model.specs.Vector.{Vector}
-use Rattle.sgp4_periodic.specs.Covered.{CoversPosition}
+use Rattle.fixed_iv.specs.EnclosedVector.{CoversVector}
 use Rattle.sgp4_shape.specs.Covering.{CoversConsts, CoversMean, unit_minutes}
 use Rattle.sgp4_shape.specs.declared.consts.Consts.{Consts}
 use Rattle.sgp4_shape.specs.declared.mean.Mean.{Mean}
@@ -30,7 +30,7 @@ CoverMeans consts time mean = (h : Place) (pi x : ℚ) (k : ConstRecord) (m : Me
 
 -- enclosed constants and mean elements give an enclosed position
 abbrev CoverPositions : Consts Plain → Mean Plain → Vec3 Plain → Type 0
-CoverPositions consts mean position = (h : Place) (pi root : ℚ) (k : ConstRecord) (m : MeanRecord) (v : Vector) → IsPi pi → CoversConsts plain_covers consts k → CoversMean plain_covers mean h m → IsPosition k m pi root v → CoversPosition plain_covers position h v
+CoverPositions consts mean position = (h : Place) (pi root : ℚ) (k : ConstRecord) (m : MeanRecord) (v : Vector) → IsPi pi → CoversConsts plain_covers consts k → CoversMean plain_covers mean h m → IsPosition k m pi root v → CoversVector plain_covers position h v
 
 -- the mean elements at the instant are enclosed
 mean_at : (set : ElementsRecord) (at : ℤ) (consts : Consts Plain) (time : Plain) (mean : Mean Plain) → ((h : Place) → plain_covers time h (units_from set.epoch at)) → CoverMeans consts time mean →

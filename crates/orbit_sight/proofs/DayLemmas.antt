@@ -15,8 +15,7 @@ use Rattle.fixed_iv.specs.Reach.{IsHeld, from_to, reach_of, turn_range}
 use Rattle.fixed_iv.specs.declared.iv.Iv.{Iv}
 use Rattle.fixed_iv.specs.declared.vec3.Vec3.{Vec3}
 use Rattle.fixed_iv.proofs.OuterLemmas.{width_is}
-use Rattle.earth_frame.specs.Covered.{CoversVector}
-use Rattle.earth_frame.specs.HeldVector.{IsHeldVector}
+use Rattle.fixed_iv.specs.EnclosedVector.{CoversVector, IsHeldVector}
 use Rattle.earth_frame.specs.Spread.{IsSpreadWithin}
 use Rattle.sgp4_model.specs.Angle.{IsNear, IsPi, part}
 use Rattle.sgp4_model.specs.DaySolution.{GrazesHorizon}

@@ -22,7 +22,7 @@ use Rattle.sgp4_drag.specs.Guard.{AreAtLeast1, IsInsideGuard}
 use Rattle.sgp4_model.specs.MeanElements.{IsEccentricityGuarded}
 use Rattle.sgp4_model.specs.OrbitRecords.{MeanRecord}
 use Rattle.sgp4_model.specs.Vector.{Vector}
-use Rattle.sgp4_periodic.specs.Covered.{IsHeldPosition, PositionReach}
+use Rattle.fixed_iv.specs.EnclosedVector.{IsHeldVector, VectorReach}
 use Rattle.sgp4_periodic.specs.Ellipse.{reach_ellipse}
 use Rattle.sgp4_periodic.specs.Guards.{AreDistant, LieAbove0}
 use Rattle.sgp4_periodic.specs.Placed.{reach_at, reach_place}
@@ -69,7 +69,7 @@ small_sizes : (m n a : ℕ) → m ≤ a → n ≤ a → a ≤ 60000000000000 →
 small_sizes m n a p q r t = omega (arith, p, q, r, t)
 
 -- numerals for each coordinate
-abbrev pub box_position : OrbitBox → PositionReach
+abbrev pub box_position : OrbitBox → VectorReach
 box_position b = record { x = b.coordinate; y = b.coordinate; z = b.coordinate }
 
 module _ {A : Type 0} {C : A → Place → ℚ → Type 0} {E : A → Extent} {told : Bool} (law : Contained C E) (is_told : T told) (k : ConstReach) (b : OrbitBox) (fit : IsFit k b) {h : Place} where
@@ -84,7 +84,7 @@ module _ {A : Type 0} {C : A → Place → ℚ → Type 0} {E : A → Extent} {t
   }
 
   -- ---- the position
-  pub position_within : {position : Vec3 A} {v : Vector} → IsHeldPosition C E told position h v (reach_place k b.mean b.position) → IsHeldPosition C E told position h v (box_position b)
+  pub position_within : {position : Vec3 A} {v : Vector} → IsHeldVector C E told position h v (reach_place k b.mean b.position) → IsHeldVector C E told position h v (box_position b)
   position_within held = record {
     x = within b.coordinate held.x fit.position.x;
     y = within b.coordinate held.y fit.position.y;

@@ -21,7 +21,7 @@ use Rattle.sgp4_model.specs.EpochTime.{minutes_since_epoch}
 use Rattle.sgp4_model.specs.Records.{SetRecord}
 use Rattle.sgp4_model.specs.Time.{instant_of_place}
 use Rattle.sgp4_model.specs.Vector.{Vector}
-use Rattle.sgp4_periodic.specs.Covered.{IsHeldPosition}
+use Rattle.fixed_iv.specs.EnclosedVector.{IsHeldVector}
 use Rattle.sgp4_shape.specs.Covering.{unit_minutes}
 use Rattle.orbit_sight.specs.Box.{OrbitBox}
 use Rattle.orbit_sight.specs.Cell.{time_of_place}
@@ -90,7 +90,7 @@ module _ {A : Type 0} {C : A → Place → ℚ → Type 0} {E : A → Extent} {t
 
 -- ---- what a position in the box is known to be
 module _ {A : Type 0} {C : A → Place → ℚ → Type 0} {E : A → Extent} {told : Bool} (is_told : T told) (b : OrbitBox) (ok : T b.coordinate.ok) {position : Vec3 A} {h : Place} {v : Vector} where
-  pub spread_of_position : IsHeldPosition C E told position h v (box_position b) → IsSpreadVector b.coordinate.spread E position
+  pub spread_of_position : IsHeldVector C E told position h v (box_position b) → IsSpreadVector b.coordinate.spread E position
   spread_of_position held = record {
     x = let k = held.x.known is_told ok in record { measured = k.measured; spread = k.narrow };
     y = let k = held.y.known is_told ok in record { measured = k.measured; spread = k.narrow };

@@ -1,7 +1,6 @@
 -- What a scene says of solutions: each is covered; and on a least cell some position is seen from far enough to have a direction.
-use Rattle.std.proofs.Common.{[], ◌∷◌, T, ◌+◌, ◌*◌, ◌≤◌, ℕ, ℤ, pos, negsuc, neg_ℤ, arith}
+use Rattle.std.proofs.Common.{[], ◌∷◌, T, ◌+◌, ◌*◌, ◌≤◌, ℕ, ℤ, pos, negsuc, neg_ℤ, arith, le_refl as nat_refl}
 use Rattle.std.proofs.Math.Nat.{mul-le-mul}
-use Rattle.std.proofs.Common.{le_refl as nat_refl}
 use Rattle.exact.specs.Rational.{ℚ, ratio, neg_ℚ, one_ℚ, zero_ℚ, ◌+ℚ◌, ◌-ℚ◌, ◌*ℚ◌, ◌≤ℚ◌, ◌<ℚ◌}
 use Rattle.exact.proofs.Bounds.{square}
 use Rattle.exact.proofs.Integers.{of_int_is}
@@ -10,8 +9,7 @@ use Rattle.exact.proofs.Order.{gap, known, le_by, ◌⊕◌, ◌⊗◌}
 use Rattle.exact.proofs.RationalRing.{reads}
 use Rattle.exact.proofs.Strict.{lt_by, positive_known, positive_sum}
 use Rattle.decimals.specs.Decimal.{value}
-use Rattle.earth_frame.specs.Covered.{CoversVector}
-use Rattle.earth_frame.specs.HeldVector.{VectorReach}
+use Rattle.fixed_iv.specs.EnclosedVector.{CoversVector, VectorReach}
 use Rattle.earth_frame.specs.Spread.{IsSpreadWithin}
 use Rattle.elements.specs.Elements.{IsFromTo}
 use Rattle.fixed_iv.specs.Extent.{Extent}
@@ -32,7 +30,6 @@ use Rattle.sgp4_model.proofs.MeanExists.{pair_exists}
 use Rattle.sgp4_model.proofs.PlaceExists.{place_exists}
 use Rattle.sgp4_model.proofs.Pythagoras.{sine_pairs_are_bounded, squares_add_up_to_one}
 use Rattle.sgp4_model.proofs.RangeLemmas.{toward_square_least}
-use Rattle.sgp4_periodic.specs.Covered.{CoversPosition}
 use Rattle.station_view.specs.Axes.{EnclosesVector, inner_reach}
 use Rattle.station_view.specs.Fine.{AreFine, CoverOutside, IsOutside}
 use Rattle.station_view.specs.SightReach.{toward_reach}
@@ -66,7 +63,7 @@ stands station p = record {
   is_place = p.is_sight.is_place;
 }
 
-pub as_vector : {A : Type 0} (E : Ghosts A) (scene : Scene A) {h : Place} {r : Vector} → CoversPosition E.covers scene.position h r → CoversVector E.covers scene.position h r
+pub as_vector : {A : Type 0} (E : Ghosts A) (scene : Scene A) {h : Place} {r : Vector} → CoversVector E.covers scene.position h r → CoversVector E.covers scene.position h r
 as_vector E scene c = record { x = c.x; y = c.y; z = c.z }
 
 -- ---- the size of a sine

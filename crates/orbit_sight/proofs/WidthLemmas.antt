@@ -21,7 +21,7 @@ use Rattle.fixed_iv.proofs.NarrowLemmas.{measured_of}
 use Rattle.fixed_iv.proofs.OuterLemmas.{width_is}
 use Rattle.fixed_iv.proofs.WidthLemmas.{tight_bounded, tight_width}
 use Rattle.sgp4_model.specs.Vector.{Vector}
-use Rattle.sgp4_periodic.specs.Covered.{IsHeldPosition}
+use Rattle.fixed_iv.specs.EnclosedVector.{IsHeldVector}
 use Rattle.orbit_sight.specs.Box.{OrbitBox}
 use Rattle.orbit_sight.specs.TakenBoxes.{instant_box}
 use Rattle.orbit_sight.specs.Craft.{IsBoundedVector, IsNarrowVector, plain_covers, plain_extent}
@@ -61,7 +61,7 @@ time_held set at time tight inside h =
     record { covers = g.holds; known = λ _ _. record { inside = g.inside; measured = measured_of time.iv g.bounded; narrow = g.within } }
 
 -- ---- the position
-module _ (b : OrbitBox) (ok : T b.coordinate.ok) {position : Vec3 Plain} {h : Place} {v : Vector} (held : IsHeldPosition plain_covers plain_extent true position h v (box_position b)) where
+module _ (b : OrbitBox) (ok : T b.coordinate.ok) {position : Vec3 Plain} {h : Place} {v : Vector} (held : IsHeldVector plain_covers plain_extent true position h v (box_position b)) where
   pub narrow : IsNarrowVector b.coordinate.spread (record { x = position.x.iv; y = position.y.iv; z = position.z.iv })
   narrow = record {
     x = (held.x.known tt ok).narrow;

@@ -2,7 +2,8 @@
 use Rattle.std.specs.Prelude.{ℕ, ℤ, pos, negsuc}
 use Rattle.exact.specs.Rational.{ℚ}
 use Rattle.decimals.specs.Decimal.{value}
-use Rattle.earth_frame.specs.HeldVector.{VectorReach, rotated}
+use Rattle.fixed_iv.specs.EnclosedVector.{VectorReach}
+use Rattle.earth_frame.specs.HeldVector.{rotated}
 use Rattle.fixed_iv.specs.Follows.{Encloses}
 use Rattle.fixed_iv.specs.Place.{Place}
 use Rattle.fixed_iv.specs.Reach.{Reach, from_to}

@@ -12,7 +12,7 @@ use Rattle.sgp4_model.specs.Records.{SetRecord}
 use Rattle.sgp4_model.specs.Time.{instant_of_place}
 use Rattle.sgp4_model.specs.Vector.{Vector}
 use Rattle.sgp4_motion.specs.Fate.{IsFar}
-use Rattle.sgp4_periodic.specs.Covered.{CoversPosition, IsHeldPosition}
+use Rattle.fixed_iv.specs.EnclosedVector.{CoversVector, IsHeldVector}
 use Rattle.orbit_sight.specs.TakenBoxes.{cell_position, cell_spread}
 
 -- each coordinate has bounds no wider than its spread, which is at most so many units of 2^-48
@@ -49,7 +49,7 @@ instant_on cell h = instant_of_place cell.start (place_on cell h)
 module _ (set : SetRecord) (cell : CellRecord) where
   -- at each place of the cell each position of the set is covered
   abbrev pub CoversEachPosition : {A : Type 0} → Ghosts A → Vec3 A → Type 0
-  CoversEachPosition E position = (h : Place) (r : Vector) → IsPositionAt set (instant_on cell h) r → CoversPosition E.covers position h r
+  CoversEachPosition E position = (h : Place) (r : Vector) → IsPositionAt set (instant_on cell h) r → CoversVector E.covers position h r
 
   -- there is one
   abbrev pub EachPlaceHasAPosition : Type 0
@@ -65,4 +65,4 @@ module _ (set : SetRecord) (cell : CellRecord) where
     pub at : Place
     pub r : Vector
     pub is : IsPositionAt set (instant_on cell at) r
-    pub held : IsHeldPosition E.covers E.extent E.tells position at r cell_position
+    pub held : IsHeldVector E.covers E.extent E.tells position at r cell_position

@@ -3,7 +3,7 @@ use Rattle.std.specs.Prelude.{ℕ, pos, negsuc, true}
 use Rattle.exact.specs.Interval.{between, Coef}
 use Rattle.fixed_iv.specs.Reach.{from_to}
 use Rattle.sgp4_periodic.specs.Box.{PositionBox}
-use Rattle.sgp4_periodic.specs.Covered.{PositionReach}
+use Rattle.fixed_iv.specs.EnclosedVector.{VectorReach}
 use Rattle.sgp4_shape.specs.Expected.{DragBox}
 use Rattle.orbit_sight.specs.Box.{OrbitBox}
 
@@ -72,5 +72,5 @@ cell_box = record {
 }
 
 -- numerals of a position over it
-abbrev pub cell_position : PositionReach
+abbrev pub cell_position : VectorReach
 cell_position = record { x = cell_box.coordinate; y = cell_box.coordinate; z = cell_box.coordinate }

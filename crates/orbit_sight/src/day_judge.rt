@@ -1,6 +1,6 @@
 //! The judge of daylight at a place.
 ghost use Rattle.std.specs.Prelude.{◌≡◌, ◌≢◌, ◌+◌, ◌<◌, ◌≤ℤ◌, ◌<ℤ◌, ◌^◌, pos};
-ghost use Rattle.earth_frame.specs.Offset.{IsOffset};
+ghost use Rattle.elements.specs.Offset.{IsOffset};
 ghost use Rattle.fixed_iv.specs.Holds.{Holds};
 ghost use Rattle.orbit_sight.specs.Daylight.{EachLight, day_of};
 ghost use Rattle.sgp4_model.specs.Time.{Throughout};

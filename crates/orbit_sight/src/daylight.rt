@@ -1,6 +1,6 @@
 //! The daylight product: the sine of the Sun's elevation at a place.
 ghost use Rattle.std.specs.Prelude.{◌≡◌, T, ◌+◌, ◌<◌, ◌≤◌, ◌^◌};
-ghost use Rattle.earth_frame.specs.Offset.{IsOffset};
+ghost use Rattle.elements.specs.Offset.{IsOffset};
 ghost use Rattle.earth_frame.specs.Spread.{IsSpreadWithin};
 ghost use Rattle.elements.specs.Window.{most_ticks};
 ghost use Rattle.orbit_sight.specs.Daylight.{CoversEachDay, EnclosesEachLight};

@@ -1,6 +1,6 @@
 //! The judges of a satellite and a station.
 ghost use Rattle.std.specs.Prelude.{◌≡◌, IfNone, IfSome, ◌+◌, ◌<◌};
-ghost use Rattle.earth_frame.specs.Offset.{IsOffset};
+ghost use Rattle.elements.specs.Offset.{IsOffset};
 ghost use Rattle.elements.specs.Elements.{record_of_elements};
 ghost use Rattle.orbit_sight.specs.Over.{IsNearOver};
 ghost use Rattle.orbit_sight.specs.Pairs.{HoldsEachSight, track_of};

@@ -1,6 +1,6 @@
 //! What a station sees over a cell of a window.
 ghost use Rattle.std.specs.Prelude.{◌≡◌, ◌+◌, ◌<◌, ◌≤◌, IfSome, MatchOption, T};
-ghost use Rattle.earth_frame.specs.Offset.{IsOffset};
+ghost use Rattle.elements.specs.Offset.{IsOffset};
 ghost use Rattle.elements.specs.Elements.{record_of_elements};
 ghost use Rattle.orbit_sight.specs.Over.{EachPlaceHasAPosition, EachPositionIsFarOut, IsNearOver, cell_of};
 ghost use Rattle.orbit_sight.specs.Scene.{CoversScene, IsLeastScene};

@@ -1,6 +1,6 @@
 //! On which side of a station's mask a satellite is over a cell of a window.
 ghost use Rattle.std.specs.Prelude.{◌≡◌, ◌+◌, ◌<◌, ◌≤◌, IsSome, T};
-ghost use Rattle.earth_frame.specs.Offset.{IsOffset};
+ghost use Rattle.elements.specs.Offset.{IsOffset};
 ghost use Rattle.elements.specs.Elements.{record_of_elements};
 ghost use Rattle.orbit_sight.specs.Over.{IsNearOver};
 ghost use Rattle.orbit_sight.specs.Pairs.{track_of};

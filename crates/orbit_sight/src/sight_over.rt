@@ -1,6 +1,6 @@
 //! The direction at which a station sees a satellite over a cell of a window.
 ghost use Rattle.std.specs.Prelude.{◌≡◌, ◌+◌, ◌<◌, ◌≤◌, IfSome, IsSome, T};
-ghost use Rattle.earth_frame.specs.Offset.{IsOffset};
+ghost use Rattle.elements.specs.Offset.{IsOffset};
 ghost use Rattle.elements.specs.Elements.{record_of_elements};
 ghost use Rattle.orbit_sight.specs.Over.{IsNearOver, cell_of};
 ghost use Rattle.sgp4_model.specs.Numerals.{decimal};

@@ -1,6 +1,6 @@
 //! What is said of a satellite and a station over a cell of a window.
 ghost use Rattle.std.specs.Prelude.{◌≡◌, IfNone, IfSome, T, ◌+◌, ◌<◌, ◌≤◌};
-ghost use Rattle.earth_frame.specs.Offset.{IsOffset};
+ghost use Rattle.elements.specs.Offset.{IsOffset};
 ghost use Rattle.elements.specs.Elements.{record_of_elements};
 ghost use Rattle.orbit_sight.specs.Over.{IsNearOver};
 ghost use Rattle.orbit_sight.specs.Pairs.{HoldsEachSight, track_of};

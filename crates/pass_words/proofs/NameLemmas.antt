@@ -17,7 +17,7 @@ use Rattle.pass_words.specs.Options.{first_fault, option_roles, place_of, unless
 use Rattle.pass_words.specs.Placed.{first_missing, placed}
 use Rattle.pass_words.specs.Places.{Places, is_same}
 use Rattle.pass_words.specs.Roles.{continued, first_sign, first_word, may_be_value, opens, pair, role, roles, text_role, whole, whole_at}
-use Rattle.pass_words.specs.Steps.{◌>>=◌}
+use Rattle.elements.specs.Steps.{◌>>=◌}
 use Rattle.pass_words.specs.Values.{part_given}
 
 -- the value of an option stands in its word, or in the next

@@ -13,7 +13,7 @@ use Rattle.pass_words.specs.declared.role.Role.{Role}
 use Rattle.pass_words.specs.declared.role.Role.TheVariants.{Opens, Value, Stray}
 use Rattle.pass_words.specs.Options.{place_of, first_fault, unless}
 use Rattle.pass_words.specs.Places.{Places, is_same, filled}
-use Rattle.pass_words.specs.Steps.{◌>>=◌}
+use Rattle.elements.specs.Steps.{◌>>=◌}
 use Rattle.pass_words.specs.Taken.{taken}
 
 -- the places that are left to read one word after another, or the first fault

@@ -10,7 +10,7 @@ use Rattle.pass_words.specs.Names.{AreFilesIn, AreNamesIn}
 use Rattle.pass_words.specs.Passes.{passes_given}
 use Rattle.pass_words.specs.Placed.{placed}
 use Rattle.pass_words.specs.Places.{Places}
-use Rattle.pass_words.specs.Steps.{◌>>=◌}
+use Rattle.elements.specs.Steps.{◌>>=◌}
 use Rattle.pass_words.specs.Values.{degrees_given, instant_given, number_given, part_given, window_given}
 use Rattle.pass_words.proofs.NameLemmas.{key_stands}
 

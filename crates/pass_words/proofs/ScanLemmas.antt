@@ -9,7 +9,7 @@ use Rattle.pass_words.specs.Roles.{role, roles, first_word}
 use Rattle.pass_words.specs.Options.{options, option_roles}
 use Rattle.pass_words.specs.Taken.{taken}
 use Rattle.pass_words.proofs.OptionsLemmas.{read_on, read_on-options}
-use Rattle.pass_words.specs.Steps.{◌>>=◌}
+use Rattle.elements.specs.Steps.{◌>>=◌}
 
 -- the first word of those from an index on
 pub first_word-drop : (i : ℕ) (words : List (List ℕ)) → first_word (drop i words) ≡ get_or words i []

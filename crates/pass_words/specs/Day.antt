@@ -5,7 +5,7 @@ use Rattle.pass_words.specs.declared.key.Opt.TheVariants.{Lat, Lon}
 use Rattle.pass_words.specs.declared.request.Request.{Request}
 use Rattle.pass_words.specs.declared.request.Request.TheVariants as requests
 use Rattle.pass_words.specs.Places.{Places}
-use Rattle.pass_words.specs.Steps.{◌>>=◌}
+use Rattle.elements.specs.Steps.{◌>>=◌}
 use Rattle.pass_words.specs.Values.{degrees_given, window_given}
 
 -- a latitude from -90 to 90, a longitude from -180 to 360 and a window, or the first fault in this order

@@ -19,7 +19,6 @@ pub mod Resolution
 pub mod Roles
 pub mod Show
 pub mod Span
-pub mod Steps
 pub mod Taken
 pub mod Values
 pub mod Windows

@@ -4,7 +4,7 @@ use Rattle.pass_words.specs.declared.fault.WordFault.{WordFault}
 use Rattle.pass_words.specs.declared.key.Opt.TheVariants.{Catalogue, Stations}
 use Rattle.pass_words.specs.declared.passes.Passes.{Passes}
 use Rattle.pass_words.specs.Places.{Places}
-use Rattle.pass_words.specs.Steps.{◌>>=◌}
+use Rattle.elements.specs.Steps.{◌>>=◌}
 use Rattle.pass_words.specs.Values.{part_given, window_given}
 
 -- the names of two files, which may be any text, and a window; or the window's fault

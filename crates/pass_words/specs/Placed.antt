@@ -6,7 +6,7 @@ use Rattle.pass_words.specs.declared.key.Opt.{Opt}
 use Rattle.pass_words.specs.declared.part.Part.{Part}
 use Rattle.pass_words.specs.Options.{option_roles, options, unless}
 use Rattle.pass_words.specs.Places.{Places}
-use Rattle.pass_words.specs.Steps.{◌>>=◌}
+use Rattle.elements.specs.Steps.{◌>>=◌}
 
 -- the first of the keys that has no value
 abbrev pub first_missing : List Opt → Places → Option Opt

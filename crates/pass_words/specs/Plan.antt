@@ -5,7 +5,7 @@ use Rattle.pass_words.specs.declared.request.Request.{Request}
 use Rattle.pass_words.specs.declared.request.Request.TheVariants as requests
 use Rattle.pass_words.specs.Passes.{passes_given}
 use Rattle.pass_words.specs.Places.{Places}
-use Rattle.pass_words.specs.Steps.{◌>>=◌}
+use Rattle.elements.specs.Steps.{◌>>=◌}
 
 -- the files and the window of passes, or their fault
 abbrev pub plan_request : List (List ℕ) → Places → Result Request WordFault

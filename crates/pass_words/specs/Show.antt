@@ -5,7 +5,7 @@ use Rattle.pass_words.specs.declared.key.Opt.TheVariants.{Catalogue, Start}
 use Rattle.pass_words.specs.declared.request.Request.{Request}
 use Rattle.pass_words.specs.declared.request.Request.TheVariants as requests
 use Rattle.pass_words.specs.Places.{Places}
-use Rattle.pass_words.specs.Steps.{◌>>=◌}
+use Rattle.elements.specs.Steps.{◌>>=◌}
 use Rattle.pass_words.specs.Values.{instant_given, part_given}
 
 -- the name of a file, which may be any text, and an instant; or the instant's fault

@@ -4,7 +4,7 @@ use Rattle.elements.specs.Window.{WindowRecord, tick_nanos}
 use Rattle.pass_words.specs.declared.fault.WindowFault.{WindowFault}
 use Rattle.pass_words.specs.declared.fault.WindowFault.TheVariants as windows
 use Rattle.pass_words.specs.Resolution.{resolution_value}
-use Rattle.pass_words.specs.Steps.{◌>>=◌}
+use Rattle.elements.specs.Steps.{◌>>=◌}
 
 -- so many nanoseconds are a whole number of ticks
 abbrev pub is_whole_tick : ℤ → Bool

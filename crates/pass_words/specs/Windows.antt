@@ -5,7 +5,7 @@ use Rattle.civil_time.specs.Utc.{utc_value}
 use Rattle.pass_words.specs.declared.fault.WindowFault.{WindowFault}
 use Rattle.pass_words.specs.Moment.{moment_read, moments_read}
 use Rattle.pass_words.specs.Span.{span_value}
-use Rattle.pass_words.specs.Steps.{◌>>=◌}
+use Rattle.elements.specs.Steps.{◌>>=◌}
 
 -- the window of these words for its start, its end and its resolution; or its first fault by kind
 abbrev pub window_value : List ℕ → List ℕ → List ℕ → Result WindowRecord WindowFault

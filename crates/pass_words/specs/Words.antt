@@ -9,7 +9,7 @@ use Rattle.pass_words.specs.declared.request.Request.{Request}
 use Rattle.pass_words.specs.Commands.{command_of, keys_of, request_of}
 use Rattle.pass_words.specs.Faults.{of_usage}
 use Rattle.pass_words.specs.Placed.{placed}
-use Rattle.pass_words.specs.Steps.{◌>>=◌}
+use Rattle.elements.specs.Steps.{◌>>=◌}
 
 -- the request of words for a command, if there is one
 abbrev pub command_value : Option Command → List (List ℕ) → Result Request WordFault

@@ -2,15 +2,16 @@
 ghost use Rattle.std.specs.Prelude.{◌≡◌, ◌↔◌, IfOk, IsTrue};
 ghost use Rattle.decimals.specs.Decimal.{value};
 ghost use Rattle.elements.specs.Elements.{IsFromTo};
-ghost use Rattle.pass_words.specs.Degrees.{degrees_read, is_between};
+ghost use Rattle.elements.specs.Ranges.{is_from_to};
+ghost use Rattle.pass_words.specs.Degrees.{degrees_read};
 
 use crate::fault::UsageFault;
 use crate::key::Opt;
 use decimals::{Decimal, NumFault};
 
 /// Whether a decimal lies between two whole numbers, both included.
-fn is_between(number: Decimal, low: i32, high: i32) -> bool
-    ensures value { result ≡ is_between low high number }
+fn is_from_to(number: Decimal, low: i32, high: i32) -> bool
+    ensures value { result ≡ is_from_to low high number }
     ensures range { IsTrue result ↔ IsFromTo low high (value number) }
 {
     number.is_between(low, high)
@@ -28,7 +29,7 @@ pub(crate) fn degrees_read(
 {
     match read {
         Ok(number) => {
-            if is_between(number, low, high) {
+            if is_from_to(number, low, high) {
                 Ok(number)
             } else {
                 Err(UsageFault::Value { key })

@@ -6,7 +6,7 @@ ghost use Rattle.sgp4_model.specs.Grazing.{pair_track};
 ghost use Rattle.sgp4_model.specs.LitSolution.{lit_track};
 ghost use Rattle.sgp4_motion.specs.Fate.{IsFar};
 ghost use Rattle.span_bisect.specs.Answer.{IsPoolAfter};
-ghost use Rattle.station_file.specs.Rows.{IsOffset};
+ghost use Rattle.elements.specs.Offset.{IsOffset};
 ghost use Rattle.station_file.specs.declared.row.StationRow.{StationRow};
 ghost use Rattle.orbit_sight.specs.Scene.{record_of_station as place_record};
 ghost use Rattle.plan_core.specs.Certificate.{light_of, sight_of};

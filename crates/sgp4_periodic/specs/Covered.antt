@@ -2,6 +2,7 @@
 use Rattle.std.specs.Prelude.{Bool, true}
 use Rattle.exact.specs.Rational.{ℚ}
 use Rattle.fixed_iv.specs.Extent.{Extent}
+use Rattle.fixed_iv.specs.EnclosedVector.{CoversVector, IsHeldVector, VectorReach}
 use Rattle.fixed_iv.specs.Place.{Place}
 use Rattle.fixed_iv.specs.Reach.{Reach, IsHeld, ◌+ᴿ◌, ◌-ᴿ◌, ◌*ᴿ◌, turned}
 use Rattle.fixed_iv.specs.declared.vec3.Vec3.{Vec3}
@@ -10,24 +11,6 @@ use Rattle.sgp4_shape.specs.Expected.{expected}
 use Rattle.sgp4_periodic.specs.Box.{PositionBox}
 use Rattle.sgp4_periodic.specs.Corrected.{CorrectedReach}
 use Rattle.sgp4_periodic.specs.Pairs.{inner_of, most_pair, outer_of}
-
--- each coordinate is covered at the place
-pub record CoversPosition {A : Type 0} (covers : A → Place → ℚ → Type 0) (position : Vec3 A) (h : Place) (v : Vector) : Type 0 where
-  pub x : covers position.x h v.x
-  pub y : covers position.y h v.y
-  pub z : covers position.z h v.z
-
--- numerals for each coordinate
-pub record PositionReach : Type 0 where
-  pub x : Reach
-  pub y : Reach
-  pub z : Reach
-
--- each coordinate is covered at the place, and its enclosure is as its numerals say
-pub record IsHeldPosition {A : Type 0} (covers : A → Place → ℚ → Type 0) (extent : A → Extent) (told : Bool) (position : Vec3 A) (h : Place) (v : Vector) (r : PositionReach) : Type 0 where
-  pub x : IsHeld covers extent told position.x h v.x r.x
-  pub y : IsHeld covers extent told position.y h v.y r.y
-  pub z : IsHeld covers extent told position.z h v.z r.z
 
 module _ (r : CorrectedReach) (b : PositionBox) where
   -- the sine of the change of the argument of latitude
@@ -47,7 +30,7 @@ module _ (r : CorrectedReach) (b : PositionBox) where
   reach_tilted = turned r.xinc *ᴿ reach_sw
 
   -- the position at the corrected distance and angles
-  abbrev pub reach_position : PositionReach
+  abbrev pub reach_position : VectorReach
   reach_position = record {
     x = r.mrt *ᴿ outer_of true most_pair (turned r.xnode) (turned r.xnode) reach_cw reach_tilted;
     y = r.mrt *ᴿ inner_of true most_pair (turned r.xnode) (turned r.xnode) reach_tilted reach_cw;

@@ -4,7 +4,8 @@ use Rattle.sgp4_shape.specs.HeldConsts.{ConstReach}
 use Rattle.sgp4_shape.specs.HeldMean.{MeanReach}
 use Rattle.sgp4_periodic.specs.Box.{PositionBox}
 use Rattle.sgp4_periodic.specs.Corrected.{CorrectedReach, reach_corrected}
-use Rattle.sgp4_periodic.specs.Covered.{PositionReach, reach_position}
+use Rattle.fixed_iv.specs.EnclosedVector.{VectorReach}
+use Rattle.sgp4_periodic.specs.Covered.{reach_position}
 use Rattle.sgp4_periodic.specs.Ellipse.{reach_ellipse}
 
 -- of a position whose exact quantities lie in a box
@@ -16,5 +17,5 @@ module _ (r : ConstReach) (n : MeanReach) (b : PositionBox) where
       reach_corrected r n ellipse (reach_root ellipse.u ellipse.ax ellipse.ay b.vector) b
 
   -- the position
-  abbrev pub reach_place : PositionReach
+  abbrev pub reach_place : VectorReach
   reach_place = reach_position reach_at b

@@ -18,14 +18,16 @@ use Rattle.station_file.specs.declared.fault.StKey.{StKey}
 use Rattle.station_file.specs.declared.fault.StKey.TheVariants.{Name, Lat, Lon, Height}
 use Rattle.station_file.specs.declared.row.StationRow.{StationRow}
 use Rattle.station_file.specs.declared.sector.Sector.{Sector}
-use Rattle.station_file.specs.Fields.{decimal_at, is_between, is_name, name_at, number_at, place_at}
+use Rattle.elements.specs.Ranges.{is_from_to, at_most, below}
+use Rattle.station_file.specs.Fields.{decimal_at, is_name, name_at, number_at, place_at}
 use Rattle.station_file.specs.InRange.{borders_of, floors_of, Gives, MasksAreRead, OffsetsAreRead, RowsAreRead, StationsAreRead}
 use Rattle.station_file.specs.MaskFields.{is_floor, sectors_of}
-use Rattle.station_file.specs.MaskTests.{at_most, below, is_azimuth, follows, goes_round, is_round}
+use Rattle.station_file.specs.MaskTests.{is_azimuth, follows, goes_round, is_round}
 use Rattle.station_file.specs.Masks.{degrees, IsAzimuth, Follows, GoesRound, IsRound}
-use Rattle.station_file.specs.Rows.{AreRows, IsName, IsOffset, IsStationRow}
+use Rattle.elements.specs.Offset.{IsOffset}
+use Rattle.station_file.specs.Rows.{AreRows, IsName, IsStationRow}
 use Rattle.station_file.specs.StationFile.{count, is_taken, next_index, row_of, rows_after}
-use Rattle.station_file.specs.Steps.{◌>>=◌}
+use Rattle.elements.specs.Steps.{◌>>=◌}
 use Rattle.station_file.specs.Tables.{string_at}
 
 is_true : (t : Bool) → T t → t ≡ true
@@ -59,7 +61,7 @@ azimuth_passes border h = both (at_most (degrees 0) (value border)) (below (valu
 follows_passes : (before border : ℚ) → Follows before border → follows before border ≡ true
 follows_passes before border h = both (below before border) (at_most border (before +ℚ degrees 90)) (below_of_lt _ _ h.above) (at_most_of_le _ _ h.near)
 
-between_passes : (low high : ℤ) (number : DecimalRecord) → IsFromTo low high (value number) → is_between low high number ≡ true
+between_passes : (low high : ℤ) (number : DecimalRecord) → IsFromTo low high (value number) → is_from_to low high number ≡ true
 between_passes low high number h = both (at_most (of_int low) (value number)) (at_most (value number) (of_int high)) (at_most_of_le _ _ h.least) (at_most_of_le _ _ h.most)
 
 goes_round_passes : (first border : ℚ) (sectors : List Sector) → GoesRound first border sectors → goes_round first border (borders_of sectors) ≡ true

@@ -9,7 +9,8 @@ use Rattle.elements.specs.Elements.{IsFromTo}
 use Rattle.station_file.specs.declared.sector.Sector.{Sector}
 use Rattle.station_file.specs.MaskFields.{is_floor, sectors_of}
 use Rattle.station_file.specs.Masks.{degrees, IsAzimuth, Follows, GoesRound, IsRound, IsMask}
-use Rattle.station_file.specs.MaskTests.{at_most, below, is_azimuth, is_count, follows, goes_round, is_round, are_borders}
+use Rattle.elements.specs.Ranges.{at_most, below}
+use Rattle.station_file.specs.MaskTests.{is_azimuth, is_count, follows, goes_round, is_round, are_borders}
 
 holds : (t : Bool) → t ≡ true → T t
 holds t e = subst T (sym e) tt

@@ -2,6 +2,7 @@
 use Rattle.std.specs.Prelude.{ℕ, ℤ, pos, neg_ℤ, Bool, ◌&&◌, nat_le, List, length, Option, Some, None, option_and_then, Result, Ok, Err}
 use Rattle.exact.specs.Rational.{at_least_0, of_int, ◌-ℚ◌}
 use Rattle.decimals.specs.Decimal.{DecimalRecord, value}
+use Rattle.elements.specs.Ranges.{is_from_to}
 use Rattle.decimals.specs.DecimalText.{decimal_value}
 use Rattle.decimals.specs.declared.fault.NumFault.{NumFault}
 use Rattle.toml.specs.Data.{Data, Members, as_str}
@@ -10,12 +11,9 @@ use Rattle.station_file.specs.declared.fault.StFault.TheVariants.{Shape, Range}
 use Rattle.station_file.specs.declared.fault.StKey.{StKey}
 use Rattle.station_file.specs.declared.fault.StKey.TheVariants.{Name, Lat, Lon, Height}
 use Rattle.station_file.specs.declared.field.Place.{Place}
-use Rattle.station_file.specs.Steps.{◌>>=◌, or_fault, given}
+use Rattle.elements.specs.Steps.{◌>>=◌}
+use Rattle.station_file.specs.Steps.{or_fault, given}
 use Rattle.station_file.specs.Tables.{string_at, value_at}
-
--- the number that a decimal stands for lies between two whole numbers, both included
-abbrev pub is_between : ℤ → ℤ → DecimalRecord → Bool
-is_between low high d = at_least_0 (value d -ℚ of_int low) && at_least_0 (of_int high -ℚ value d)
 
 -- a decimal that was read, if one was
 abbrev pub if_read : Result DecimalRecord NumFault → Option DecimalRecord
@@ -32,7 +30,7 @@ decimal_of d = option_and_then decimal_in (as_str d)
 
 -- a decimal from one whole number to another, or else a fault
 abbrev pub within : ℕ → StKey → ℤ → ℤ → DecimalRecord → Result DecimalRecord StFault
-within index key low high d = given (is_between low high d) (Range index key) (Ok d)
+within index key low high d = given (is_from_to low high d) (Range index key) (Ok d)
 
 -- the decimal at a key
 abbrev pub decimal_at : StKey → Members → Option DecimalRecord

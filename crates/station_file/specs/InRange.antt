@@ -8,7 +8,8 @@ use Rattle.station_file.specs.declared.sector.Sector.{Sector}
 use Rattle.station_file.specs.Fields.{decimal_at}
 use Rattle.station_file.specs.MaskFields.{mask_at, sectors_value}
 use Rattle.station_file.specs.Masks.{IsMask}
-use Rattle.station_file.specs.Rows.{AreRows, IsOffset, IsStations}
+use Rattle.elements.specs.Offset.{IsOffset}
+use Rattle.station_file.specs.Rows.{AreRows, IsStations}
 use Rattle.station_file.specs.StationFile.{next_index, offset_at, row_of_fields, rows_after, rows_of}
 use Rattle.station_file.specs.Tables.{integer_at, string_at}
 

@@ -9,10 +9,12 @@ use Rattle.station_file.specs.declared.fault.StFault.TheVariants as faults
 use Rattle.station_file.specs.declared.fault.StKey.{StKey}
 use Rattle.station_file.specs.declared.fault.StKey.TheVariants.{Mask, Borders, Masks}
 use Rattle.station_file.specs.declared.sector.Sector.{Sector}
-use Rattle.station_file.specs.Fields.{decimal_of, is_between, number_at}
+use Rattle.elements.specs.Ranges.{is_from_to}
+use Rattle.station_file.specs.Fields.{decimal_of, number_at}
 use Rattle.station_file.specs.MaskTests.{are_borders}
 use Rattle.station_file.specs.Masks.{flat_sectors}
-use Rattle.station_file.specs.Steps.{◌>>=◌, or_fault, given}
+use Rattle.elements.specs.Steps.{◌>>=◌}
+use Rattle.station_file.specs.Steps.{or_fault, given}
 use Rattle.station_file.specs.Tables.{array_at, value_at}
 
 -- these decimals and those of the strings after them, or a fault where one of these is no such string
@@ -30,7 +32,7 @@ decimals_at index key ms = decimals_of (Shape index key) (array_at key ms)
 
 -- the elevation of a sector is from -90 to 90 degrees
 abbrev pub is_floor : DecimalRecord → Bool
-is_floor = is_between (neg_ℤ (pos 90)) (pos 90)
+is_floor = is_from_to (neg_ℤ (pos 90)) (pos 90)
 
 -- the sectors of borders and of as many elevations
 abbrev pub sectors_of : List DecimalRecord → List DecimalRecord → List Sector

@@ -3,15 +3,8 @@ use Rattle.std.specs.Prelude.{ℕ, Bool, false, not, ◌&&◌, nat_le, List, [],
 use Rattle.std.specs.List.{list_all}
 use Rattle.exact.specs.Rational.{ℚ, at_least_0, ◌+ℚ◌, ◌-ℚ◌}
 use Rattle.decimals.specs.Decimal.{DecimalRecord, value}
+use Rattle.elements.specs.Ranges.{at_most, below}
 use Rattle.station_file.specs.Masks.{degrees}
-
--- a number is at most another
-abbrev pub at_most : ℚ → ℚ → Bool
-at_most x y = at_least_0 (y -ℚ x)
-
--- a number is below another
-abbrev pub below : ℚ → ℚ → Bool
-below x y = not (at_least_0 (x -ℚ y))
 
 -- an azimuth is at least 0 and below 360 degrees
 abbrev pub is_azimuth : DecimalRecord → Bool

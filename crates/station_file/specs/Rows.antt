@@ -6,6 +6,7 @@ use Rattle.sgp4_model.specs.Records.{SectorRecord, StationRecord}
 use Rattle.station_file.specs.declared.row.StationRow.{StationRow}
 use Rattle.station_file.specs.declared.sector.Sector.{Sector}
 use Rattle.station_file.specs.Masks.{IsMask}
+use Rattle.elements.specs.Offset.{IsOffset}
 
 -- a name has 1 to 64 bytes
 pub record IsName (name : List ℕ) : Type 0 where
@@ -30,11 +31,6 @@ pub record IsStations (rows : List StationRow) : Type 0 where
   pub least : 1 ≤ length rows
   pub most : length rows ≤ 64
   pub rows_are : AreRows rows
-
--- the offset of UT1 from UTC in milliseconds: from -900 to 900
-pub record IsOffset (dut1 : ℤ) : Type 0 where
-  pub low : neg_ℤ (pos 900) ≤ℤ dut1
-  pub high : dut1 ≤ℤ pos 900
 
 -- stations, and the offset of UT1 from UTC in milliseconds
 pub record StationsRecord : Type 0 where

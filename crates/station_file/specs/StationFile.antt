@@ -14,7 +14,8 @@ use Rattle.station_file.specs.declared.version.Version.TheVariants.{First, Secon
 use Rattle.station_file.specs.Fields.{name_at, place_at}
 use Rattle.station_file.specs.MaskFields.{mask_at}
 use Rattle.station_file.specs.Rows.{StationsRecord}
-use Rattle.station_file.specs.Steps.{◌>>=◌, or_fault, given}
+use Rattle.elements.specs.Steps.{◌>>=◌}
+use Rattle.station_file.specs.Steps.{or_fault, given}
 use Rattle.station_file.specs.Tables.{has_keys_of, has_station_keys, integer_at, value_at, version_at}
 
 -- one of these stations has the name

@@ -1,13 +1,7 @@
--- Steps of which each may fail, one after another.
+-- Answers that are a value or a fault.
 use Rattle.std.specs.Prelude.{◌≡◌, Bool, true, false, Option, Some, None, Result, Ok, Err}
 use Rattle.station_file.specs.declared.fault.StFault.{StFault}
 use Rattle.station_file.specs.declared.fault.StFault.TheVariants.{OutOfMemory}
-
-infixl 10 ◌>>=◌
--- the next step where there is a value, and the fault where there is none
-abbrev pub ◌>>=◌ : {A B : Type 0} → Result A StFault → (A → Result B StFault) → Result B StFault
-(Ok x) >>= next = next x
-(Err fault) >>= next = Err fault
 
 -- a value, or else a fault
 abbrev pub or_fault : {A : Type 0} → StFault → Option A → Result A StFault

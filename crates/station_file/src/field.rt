@@ -3,7 +3,8 @@ ghost use Rattle.std.specs.Prelude.{◌≡◌, ◌↔◌, IfOk, IfErr, IsTrue, O
 ghost use Rattle.decimals.specs.Decimal.{value};
 ghost use Rattle.elements.specs.Elements.{IsFromTo};
 ghost use Rattle.toml.specs.View.{table_view, view};
-ghost use Rattle.station_file.specs.Fields.{decimal_at, decimal_in, decimal_of, is_between, is_name, name_at, number_at, place_at, within};
+ghost use Rattle.elements.specs.Ranges.{is_from_to};
+ghost use Rattle.station_file.specs.Fields.{decimal_at, decimal_in, decimal_of, is_name, name_at, number_at, place_at, within};
 ghost use Rattle.station_file.specs.Rows.{IsName};
 
 use crate::fault::{StFault, StKey};
@@ -20,8 +21,8 @@ pub(crate) struct Place {
 }
 
 /// Whether a decimal lies between two whole numbers, both included.
-pub(crate) fn is_between(number: Decimal, low: i32, high: i32) -> bool
-    ensures value { result ≡ is_between low high number }
+pub(crate) fn is_from_to(number: Decimal, low: i32, high: i32) -> bool
+    ensures value { result ≡ is_from_to low high number }
     ensures range { IsTrue result ↔ IsFromTo low high (value number) }
 {
     number.is_between(low, high)
@@ -52,7 +53,7 @@ fn within(index: u32, key: StKey, low: i32, high: i32, number: Decimal) -> Resul
     ensures value { result ≡ within index key low high number }
     ensures range { IfOk result (λ number. IsFromTo low high (value number)) }
 {
-    if is_between(number, low, high) {
+    if is_from_to(number, low, high) {
         Ok(number)
     } else {
         Err(StFault::Range { index, key })

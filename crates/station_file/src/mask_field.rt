@@ -9,7 +9,7 @@ ghost use Rattle.station_file.specs.Steps.{IsFaultOf};
 
 use crate::border::are_borders;
 use crate::fault::{StFault, StKey};
-use crate::field::{decimal_of, is_between, number_at};
+use crate::field::{decimal_of, is_from_to, number_at};
 use crate::mask::MaskRow;
 use crate::sector::Sector;
 use crate::table::{array_at, value_at};
@@ -56,7 +56,7 @@ fn decimals_at(
 fn is_floor(floor: Decimal) -> bool
     ensures { result ≡ is_floor floor }
 {
-    is_between(floor, -90, 90)
+    is_from_to(floor, -90, 90)
 }
 
 /// Whether each elevation is.

@@ -3,7 +3,8 @@ ghost use Rattle.std.specs.Prelude.{◌≡◌, ◌+◌, ◌<◌, ◌≤◌, ◌^
 ghost use Rattle.decimals.specs.Decimal.{value};
 ghost use Rattle.elements.specs.Elements.{IsFromTo};
 ghost use Rattle.toml.specs.View.{items_view, table_view, view};
-ghost use Rattle.station_file.specs.Rows.{AreRows, IsName, IsOffset, IsStationRow, IsStations};
+ghost use Rattle.elements.specs.Offset.{IsOffset};
+ghost use Rattle.station_file.specs.Rows.{AreRows, IsName, IsStationRow, IsStations};
 ghost use Rattle.station_file.specs.Tables.{value_at};
 ghost use Rattle.station_file.specs.StationFile.{is_taken, offset_at, offset_of, row_of, row_of_fields, row_of_parts, rows_after, rows_at, rows_of, station_value, stations_in, stations_of, text_value};
 ghost use Rattle.station_file.specs.Steps.{IsFaultOf};

@@ -13,7 +13,7 @@ pub struct Stations {
 }
 
 impl Model for Stations {
-    ghost use Rattle.station_file.specs.Rows.{AreStations, StationsRecord};
+    ghost use Rattle.station_file.specs.Rows.{AreStations, StationsRecord, IsStationRow, IsStations};
 
     ghost Value = { StationsRecord };
 
@@ -24,7 +24,7 @@ impl Model for Stations {
 
 impl Stations {
     ghost use Rattle.std.specs.Prelude.{pos};
-    ghost use Rattle.station_file.specs.Rows.{AreStations, IsOffset, IsStationRow, IsStations};
+    ghost use Rattle.elements.specs.Offset.{IsOffset};
 
     /// The stations of these rows: 1 to 64, each in its ranges, whose names differ. UT1 is UTC.
     pub fn of(rows: Vec<StationRow>) -> Stations

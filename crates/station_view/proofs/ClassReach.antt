@@ -1,7 +1,7 @@
 -- Numerals of the lengths of a vector on a least cell, where the range lies between m and n ten-thousandths of an Earth radius.
 use Rattle.std.proofs.Common.{◌≡◌, T, true, nat_le, ℕ, ◌+◌, ◌*◌, ◌^◌, pos, negsuc, neg_ℤ}
 use Rattle.exact.specs.Interval.{Interval}
-use Rattle.earth_frame.specs.HeldVector.{VectorReach}
+use Rattle.fixed_iv.specs.EnclosedVector.{VectorReach}
 use Rattle.fixed_iv.specs.Reach.{Reach, claimed, from_to, ◌*ᴿ◌}
 use Rattle.sgp4_periodic.specs.Pairs.{most_pair, outer_of}
 use Rattle.station_view.specs.SightReach.{LengthsReach, SightReach, lengths_reach, range_reach, sight_reach}

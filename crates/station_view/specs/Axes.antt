@@ -1,7 +1,7 @@
 -- What enclosed axes and inner products cover, and their numerals.
 use Rattle.std.specs.Prelude.{◌^◌, pos, negsuc, true}
 use Rattle.exact.specs.Rational.{ℚ, ◌+ℚ◌, ◌-ℚ◌, ◌*ℚ◌}
-use Rattle.earth_frame.specs.HeldVector.{IsHeldVector, VectorReach}
+use Rattle.fixed_iv.specs.EnclosedVector.{IsHeldVector, VectorReach}
 use Rattle.fixed_iv.specs.Follows.{Encloses}
 use Rattle.fixed_iv.specs.Place.{Place}
 use Rattle.fixed_iv.specs.Reach.{IsGiven, Reach, from_to, turn_range, ◌+ᴿ◌, ◌*ᴿ◌}

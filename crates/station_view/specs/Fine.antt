@@ -1,7 +1,7 @@
 -- When the bounds of lengths and of a direction are surely narrow: on a cell that is fine enough, of a position that is far enough out.
 use Rattle.std.specs.Prelude.{T, pos}
 use Rattle.exact.specs.Rational.{ℚ, ratio, zero_ℚ, ◌≤ℚ◌}
-use Rattle.earth_frame.specs.Covered.{CoversVector}
+use Rattle.fixed_iv.specs.EnclosedVector.{CoversVector}
 use Rattle.earth_frame.specs.Spread.{IsSpreadWithin}
 use Rattle.earth_frame.specs.declared.rotation.Turn.{Turn}
 use Rattle.fixed_iv.specs.Place.{Place}

@@ -1,7 +1,7 @@
 -- The vector from a station to a position as lengths along the local axes, and its own length: in Earth radii.
 use Rattle.exact.specs.Rational.{ℚ, ◌*ℚ◌}
 use Rattle.exact.specs.Interval.{Inside, Interval}
-use Rattle.earth_frame.specs.HeldVector.{VectorReach}
+use Rattle.fixed_iv.specs.EnclosedVector.{VectorReach}
 use Rattle.earth_frame.specs.declared.rotation.Turn.{Turn}
 use Rattle.fixed_iv.specs.Follows.{Encloses}
 use Rattle.fixed_iv.specs.Place.{Place}

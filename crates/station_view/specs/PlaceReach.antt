@@ -2,7 +2,7 @@
 use Rattle.std.specs.Prelude.{◌^◌, pos, negsuc}
 use Rattle.exact.specs.Rational.{ℚ, ◌+ℚ◌, ◌*ℚ◌, ◌/ℚ◌, one_ℚ}
 use Rattle.exact.specs.Interval.{Interval, between}
-use Rattle.earth_frame.specs.HeldVector.{VectorReach}
+use Rattle.fixed_iv.specs.EnclosedVector.{VectorReach}
 use Rattle.fixed_iv.specs.Follows.{Encloses}
 use Rattle.fixed_iv.specs.Place.{Place}
 use Rattle.fixed_iv.specs.Reach.{IsGiven, Reach, from_to}

@@ -2,7 +2,8 @@
 use Rattle.std.specs.Prelude.{◌^◌, pos, negsuc, true}
 use Rattle.exact.specs.Rational.{ratio, ◌<ℚ◌}
 use Rattle.exact.specs.Interval.{Interval}
-use Rattle.earth_frame.specs.HeldVector.{VectorReach, rotated}
+use Rattle.fixed_iv.specs.EnclosedVector.{VectorReach}
+use Rattle.earth_frame.specs.HeldVector.{rotated}
 use Rattle.fixed_iv.specs.Follows.{Encloses}
 use Rattle.fixed_iv.specs.Place.{Place}
 use Rattle.fixed_iv.specs.Reach.{Reach, claimed, from_to, ◌-ᴿ◌, ◌/ᴿ◌}

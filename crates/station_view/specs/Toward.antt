@@ -1,8 +1,7 @@
 -- What a station, the Earth's turn and a position give: the vector from the one to the other, and its direction.
 use Rattle.exact.specs.Rational.{ℚ}
 use Rattle.exact.specs.Interval.{Inside, Interval}
-use Rattle.earth_frame.specs.Covered.{CoversVector}
-use Rattle.earth_frame.specs.HeldVector.{VectorReach}
+use Rattle.fixed_iv.specs.EnclosedVector.{CoversVector, VectorReach}
 use Rattle.earth_frame.specs.declared.rotation.Turn.{Turn}
 use Rattle.fixed_iv.specs.Follows.{Encloses}
 use Rattle.fixed_iv.specs.Place.{Place}

@@ -1,6 +1,6 @@
 -- What the enclosed numbers of a shadow cover, and how narrow they are.
 use Rattle.std.specs.Prelude.{ℕ, T, ◌+◌, ◌*◌, ◌/◌, ◌^◌, ◌≤◌}
-use Rattle.earth_frame.specs.Covered.{CoversVector}
+use Rattle.fixed_iv.specs.EnclosedVector.{CoversVector}
 use Rattle.earth_frame.specs.Slim.{IsSlimAt}
 use Rattle.earth_frame.specs.Spread.{IsSpreadWithin}
 use Rattle.exact.specs.Rational.{ℚ}

@@ -5,5 +5,4 @@ pub mod Forms
 pub mod LineOne
 pub mod LineTwo
 pub mod Ranges
-pub mod Steps
 pub mod TwoLine

@@ -7,7 +7,7 @@ use Rattle.tle_read.specs.declared.line_one.Epoch.{Epoch}
 use Rattle.tle_read.specs.Columns.{columns, byte_in}
 use Rattle.tle_read.specs.Fields.{catalogue_number, year_of, fixed_point, drag_of, type_of}
 use Rattle.tle_read.specs.Forms.{of_form, space_at, digit_at}
-use Rattle.tle_read.specs.Steps.{◌>>=◌}
+use Rattle.elements.specs.Steps.{◌>>=◌}
 
 -- columns 2 to 18: the catalogue number; the class and the designator are not read
 unfoldable pub number_part : List ℕ → Result ℕ TleFault

@@ -5,7 +5,7 @@ use Rattle.tle_read.specs.declared.line_two.LineTwo.{LineTwo}
 use Rattle.tle_read.specs.Columns.{columns}
 use Rattle.tle_read.specs.Fields.{FixedPoint, catalogue_number, fixed_point, eccentricity_of}
 use Rattle.tle_read.specs.Forms.{of_form, space_at, digit_at}
-use Rattle.tle_read.specs.Steps.{◌>>=◌}
+use Rattle.elements.specs.Steps.{◌>>=◌}
 
 -- columns 2 to 8: the catalogue number between spaces
 unfoldable pub number_part : List ℕ → Result ℕ TleFault

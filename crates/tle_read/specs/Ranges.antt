@@ -9,7 +9,7 @@ use Rattle.tle_read.specs.declared.line_one.Epoch.{Epoch}
 use Rattle.tle_read.specs.declared.line_one.LineOne.{LineOne}
 use Rattle.tle_read.specs.declared.line_two.LineTwo.{LineTwo}
 use Rattle.tle_read.specs.Fields.{FixedPoint, decimal_of}
-use Rattle.tle_read.specs.Steps.{◌>>=◌}
+use Rattle.elements.specs.Steps.{◌>>=◌}
 
 -- the number is at most a whole number
 abbrev pub is_at_most : FixedPoint → ℕ → Bool

@@ -11,7 +11,7 @@ use Rattle.tle_read.specs.Columns.{byte_in, is_blank, skip_end}
 use Rattle.tle_read.specs.LineOne.{line_one}
 use Rattle.tle_read.specs.LineTwo.{line_two}
 use Rattle.tle_read.specs.Ranges.{of_one_number, of_theory, of_ranges, elements_of}
-use Rattle.tle_read.specs.Steps.{◌>>=◌}
+use Rattle.elements.specs.Steps.{◌>>=◌}
 
 -- a line without the blanks at its end
 abbrev pub trimmed : List ℕ → List ℕ

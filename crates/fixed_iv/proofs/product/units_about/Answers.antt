@@ -2,7 +2,7 @@ use Rattle.std.proofs.Common.{◌≡◌, arith, to_z, of_z}
 use Rattle.std.proofs.lemmas.Int.{ints}
 use mir.Syntax.{w128}
 use Rattle.exact.specs.Rational.{ratio}
-use Rattle.fixed_iv.specs.Steps.{IsCutHigh, IsCutLow}
+use Rattle.fixed_iv.specs.Corners.{IsCutHigh, IsCutLow}
 use Rattle.fixed_iv.specs.Rounding.{IsCeiling, IsFloor}
 use Rattle.fixed_iv.proofs.AboutLemmas.{about_ordered, high_about, low_about, safe_cast, safe_ceiling, safe_floor, safe_high, safe_kept, safe_low, safe_order, kept_safe_high, kept_safe_low}
 use Rattle.fixed_iv.proofs.RoundingLemmas.{kept}

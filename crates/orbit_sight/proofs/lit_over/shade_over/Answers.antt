@@ -1,6 +1,6 @@
 use Rattle.std.proofs.Common.{subst, sym, pos, negsuc, ◌^◌}
 use Rattle.elements.specs.Elements.{record_of_elements}
-use Rattle.earth_frame.specs.Covered.{CoversVector}
+use Rattle.fixed_iv.specs.EnclosedVector.{CoversVector}
 use Rattle.fixed_iv.specs.Reach.{from_to, ◌+ᴿ◌, ◌-ᴿ◌, ◌*ᴿ◌}
 use Rattle.fixed_iv.proofs.Held.{claim_held, within}
 use Rattle.sgp4_model.specs.Light.{shadow_of}

@@ -1,8 +1,0 @@
--- Steps of which each may fail, one after another.
-use Rattle.std.specs.Prelude.{Result, Ok, Err}
-
-infixl 10 ◌>>=◌
--- the next step where there is a value, and the fault where there is none
-abbrev pub ◌>>=◌ : {A B E : Type 0} → Result A E → (A → Result B E) → Result B E
-(Ok x) >>= next = next x
-(Err fault) >>= next = Err fault
