@@ -13,7 +13,7 @@ mod PlaceLemmas
 mod NormLemmas
 mod OneLemmas
 mod RangeLemmas
-mod RoundLemmas
+pub mod RoundLemmas
 mod ScaleLemmas
 mod SightClasses
 mod SpanLemmas

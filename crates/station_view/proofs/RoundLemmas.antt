@@ -25,7 +25,7 @@ go_round first border [] all round = follows (subst (λ t. file.Follows border (
 go_round first border (s ∷ row) all round =
     (below_turn (all 0 s (omega arith)), (follows round.0, go_round first (value s.border) row (λ k d h. all (suc k) d (omega (arith, h))) round.1))
 
-are_round : (row : List Sector) → IsMask row → AreRound (map record_of_sector row)
+pub are_round : (row : List Sector) → IsMask row → AreRound (map record_of_sector row)
 are_round [] is = absurd is.round
 are_round (s ∷ row) is =
     let first = is.azimuths 0 s (omega arith) in
