@@ -3,6 +3,7 @@ ghost use Rattle.std.specs.Prelude.{◌≡◌, pos, IsTrue, IfOk};
 ghost use Rattle.exact.specs.Rational.{of_int, ◌≤ℚ◌, ◌<ℚ◌};
 ghost use Rattle.decimals.specs.Decimal.{value};
 ghost use Rattle.elements.specs.Elements.{IsFromTo};
+ghost use Rattle.elements.specs.Ranges as ranges;
 ghost use Rattle.omm_kvn.specs.declared.key.Key.TheVariants.{Motion, Ecc};
 ghost use Rattle.omm_kvn.specs.Found.{places_in};
 ghost use Rattle.omm_kvn.specs.Numbers as spec;
@@ -28,7 +29,7 @@ pub(crate) struct Orbit {
 /// Whether a number is above a whole number.
 #[tactic(auto, using(decimals::proofs::UnitsLemmas::value_whole))]
 fn is_above(number: Decimal, low: i32) -> bool
-    ensures value { result ≡ spec.is_below (of_int low) (value number) }
+    ensures value { result ≡ ranges.below (of_int low) (value number) }
     ensures above { IsTrue result → of_int low <ℚ value number }
 {
     Decimal::whole(low).is_below(number)
@@ -36,8 +37,8 @@ fn is_above(number: Decimal, low: i32) -> bool
 
 /// Whether a number is below a whole number.
 #[tactic(auto, using(decimals::proofs::UnitsLemmas::value_whole))]
-fn below(number: Decimal, high: i32) -> bool
-    ensures value { result ≡ spec.is_below (value number) (of_int high) }
+fn is_below(number: Decimal, high: i32) -> bool
+    ensures value { result ≡ ranges.below (value number) (of_int high) }
     ensures below { IsTrue result → value number <ℚ of_int high }
 {
     number.is_below(Decimal::whole(high))
@@ -46,7 +47,7 @@ fn below(number: Decimal, high: i32) -> bool
 /// Whether a number is at least a whole number.
 #[tactic(auto, using(decimals::proofs::UnitsLemmas::value_whole))]
 fn is_at_least(number: Decimal, low: i32) -> bool
-    ensures value { result ≡ spec.is_at_most (of_int low) (value number) }
+    ensures value { result ≡ ranges.at_most (of_int low) (value number) }
     ensures least { IsTrue result → of_int low ≤ℚ value number }
 {
     Decimal::whole(low).is_at_most(number)
@@ -57,7 +58,7 @@ fn is_motion(number: Decimal) -> bool
     ensures value { result ≡ spec.is_motion number }
     ensures above { IsTrue result → of_int (pos 0) <ℚ value number }
 {
-    is_above(number, 0) && below(number, 100)
+    is_above(number, 0) && is_below(number, 100)
 }
 
 /// Whether a number is at least 0 and below 1.
@@ -66,12 +67,12 @@ fn is_ecc(number: Decimal) -> bool
     ensures least { IsTrue result → of_int (pos 0) ≤ℚ value number }
     ensures below { IsTrue result → value number <ℚ of_int (pos 1) }
 {
-    is_at_least(number, 0) && below(number, 1)
+    is_at_least(number, 0) && is_below(number, 1)
 }
 
 /// Whether a number lies between two whole numbers, both included.
-fn is_from_to(number: Decimal, low: i32, high: i32) -> bool
-    ensures value { result ≡ spec.is_between low high number }
+fn is_between(number: Decimal, low: i32, high: i32) -> bool
+    ensures value { result ≡ ranges.is_from_to low high number }
     ensures range { IsTrue result → IsFromTo low high (value number) }
 {
     number.is_between(low, high)
@@ -119,11 +120,11 @@ fn angle_given(
     low: i32,
     high: i32,
 ) -> Result<Decimal, OmmFault>
-    ensures value { result ≡ spec.given_where (spec.is_between low high) key text.now (places_in found.now) }
+    ensures value { result ≡ spec.given_where (ranges.is_from_to low high) key text.now (places_in found.now) }
     ensures range { IfOk result (λ d. IsFromTo low high (value d)) }
 {
     let number = decimal_given(text, found, key)?;
-    in_range(key, is_from_to(number, low, high), number)
+    in_range(key, is_between(number, low, high), number)
 }
 
 /// The mean motion, the eccentricity and the angles.
