@@ -2,7 +2,8 @@
 #![tactic(auto)]
 
 ghost use Rattle.rows_runs.specs.EndLaws.{StatusesTell};
-ghost use Rattle.rows_runs.specs.ProductLaws.{DaylightIsCertified, LocatedSatellitesAreAnswers, PlansAreCertified, ProductsAreOfTheirCommand, ShownSatellitesAreChosen};
+ghost use Rattle.rows_runs.specs.ProductLaws.{BookingsAreCertified, DaylightIsCertified, GridsAreCounted, LocatedSatellitesAreAnswers};
+ghost use Rattle.rows_runs.specs.ProductLaws.{PlansAreCertified, ProductsAreOfTheirCommand, ShownSatellitesAreChosen};
 ghost use Rattle.rows_runs.specs.SmallCauses.{EmptyFiles, SmallCauses};
 ghost use Rattle.rows_runs.specs.SmallCounted.{SmallCounted};
 ghost use Rattle.rows_runs.specs.SmallOutputs.{SmallProducts, SmallRefusals};
@@ -74,6 +75,16 @@ pub fn shown_satellites_are_chosen()
 /// What is located is the answer of the chosen satellites of the file's bytes.
 pub fn located_satellites_are_answers()
     ensures { LocatedSatellitesAreAnswers }
+{}
+
+/// Counts are those of a certified plan of as many generated satellites as the words say.
+pub fn grids_are_counted()
+    ensures { GridsAreCounted }
+{}
+
+/// Bookings are of a certified plan of the words' files and window, with as many antennas as the words say.
+pub fn bookings_are_certified()
+    ensures { BookingsAreCertified }
 {}
 
 /// What the exit status of the program says.

@@ -1,7 +1,11 @@
 -- The products and outcomes of a run: what is printed of a product, and what each outcome says of it.
 use Rattle.std.specs.Prelude.{◌≡◌, ◌⊎◌, ℕ, List, Option, Bool, true, ⊤, if◌then◌else◌}
+use Rattle.book_command.specs.BookLayout.{book_text}
+use Rattle.book_command.specs.State as books
 use Rattle.day_command.specs.Day.{day_text}
 use Rattle.day_command.specs.Whole.{has_spans}
+use Rattle.grid_command.specs.Counted.{grid_text}
+use Rattle.grid_command.specs.Counted as grids
 use Rattle.outside_io.specs.declared.shelf.Shelf.{Ghosts as Shelf}
 use Rattle.outside_io.specs.declared.sink.Sink.{Ghosts as Sink}
 use Rattle.pass_text.specs.CatalogueFaults.{catalogue_fault_line}
@@ -23,7 +27,7 @@ use Rattle.sat_locate.specs.Found.{found_record, is_placed, locate_record}
 use Rattle.top_call.specs.declared.outcome.Outcome.{Outcome}
 use Rattle.top_call.specs.declared.outcome.Outcome.TheVariants.{Done, Usage, BadWindow, BadCatalogue, BadStations, ReadFault, TooLong, WriteFault, OutOfMemory}
 use Rattle.top_call.specs.declared.outcome.Product.{Product}
-use Rattle.top_call.specs.declared.outcome.Product.TheVariants.{Day, Plan, Shown, Located}
+use Rattle.top_call.specs.declared.outcome.Product.TheVariants.{Day, Plan, Shown, Located, Counted, Booked}
 
 -- what is printed of a product
 abbrev pub layout : Product → List ℕ
@@ -31,6 +35,8 @@ layout (Day day) = day_text day
 layout (Plan plan) = plan_text plan
 layout (Shown sets) = show_layout sets
 layout (Located answer) = locate_layout (locate_record answer)
+layout (Counted counted) = grid_text counted
+layout (Booked book) = book_text book
 
 -- nothing is left out of the product
 abbrev pub is_whole : Product → Bool
@@ -38,6 +44,8 @@ is_whole (Day day) = has_spans day.answer
 is_whole (Plan plan) = plans.is_whole (plan_record plan)
 is_whole (Shown sets) = true
 is_whole (Located answer) = is_placed (found_record answer.found)
+is_whole (Counted counted) = grids.is_whole counted.summary
+is_whole (Booked book) = books.is_whole book
 
 -- the exit status
 abbrev pub status_of : Outcome → ℕ

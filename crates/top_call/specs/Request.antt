@@ -1,6 +1,8 @@
 -- What a request asks for, and what the words ask for.
 use Rattle.std.specs.Prelude.{◌≡◌, ℕ, List, Option, Result, Ok, Err}
+use Rattle.book_command.specs.BookedAt.{IsBookedAt}
 use Rattle.day_command.specs.Day.{IsDayAt}
+use Rattle.grid_command.specs.Counted.{IsCountedAt}
 use Rattle.locate_command.specs.Located.{IsLocatedAt}
 use Rattle.pass_words.specs.Placed.{text_at}
 use Rattle.pass_words.specs.Words.{words_value}
@@ -14,7 +16,7 @@ use Rattle.run_ends.specs.Runs.{Command}
 use Rattle.show_command.specs.Shown.{IsShownAt}
 use Rattle.top_call.specs.Outcome.{layout}
 use Rattle.top_call.specs.declared.outcome.Product.{Product}
-use Rattle.top_call.specs.declared.outcome.Product.TheVariants.{Day, Plan, Shown, Located}
+use Rattle.top_call.specs.declared.outcome.Product.TheVariants.{Day, Plan, Shown, Located, Counted, Booked}
 
 -- the files that a request names, in the order in which they are read
 abbrev pub files_of : List (List ℕ) → Request → Files
@@ -22,6 +24,8 @@ files_of words (requests.Day lat lon window) = no_file
 files_of words (requests.Plan catalogue stations window) = catalogue_and_stations (text_at words catalogue) window.start (text_at words stations)
 files_of words (requests.Show catalogue start) = catalogue_alone (text_at words catalogue) start
 files_of words (requests.Locate catalogue number at) = catalogue_alone (text_at words catalogue) at
+files_of words (requests.Grid count) = no_file
+files_of words (requests.Book catalogue stations window antennas) = catalogue_and_stations (text_at words catalogue) window.start (text_at words stations)
 
 -- the product is the one that a request asks for, and is certified, by the held bytes where these are told
 abbrev pub IsOfRequest : (List ℕ → Option (List ℕ)) → List (List ℕ) → Request → Product → Type 0
@@ -29,6 +33,8 @@ IsOfRequest held words (requests.Day lat lon window) (Day day) = IsDayAt lat lon
 IsOfRequest held words (requests.Plan catalogue stations window) (Plan plan) = IsPlannedAt (held (text_at words catalogue)) (held (text_at words stations)) window (plan_record plan)
 IsOfRequest held words (requests.Show catalogue start) (Shown sets) = IsShownAt (held (text_at words catalogue)) start sets
 IsOfRequest held words (requests.Locate catalogue number at) (Located answer) = IsLocatedAt (held (text_at words catalogue)) number at answer
+IsOfRequest held words (requests.Grid count) (Counted counted) = IsCountedAt count counted
+IsOfRequest held words (requests.Book catalogue stations window antennas) (Booked book) = IsBookedAt (held (text_at words catalogue)) (held (text_at words stations)) window antennas book
 IsOfRequest held words request product = ⊥
 
 -- the command of a request

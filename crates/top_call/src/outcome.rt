@@ -2,8 +2,10 @@
 ghost use Rattle.std.specs.Prelude.{◌≡◌};
 ghost use Rattle.top_call.specs.Outcome.{is_whole, outcome_of, status_of};
 
+use book_command::BookPlan;
 use catalogue::{CatFault, Catalogue};
 use day_command::DayResult;
+use grid_command::Counted;
 use locate_command::LocAnswer;
 use pass_words::{UsageFault, WindowFault};
 use plan_command::Plan;
@@ -21,6 +23,10 @@ pub enum Product {
     Shown(Catalogue),
     /// Where a satellite of a file is at an instant.
     Located(LocAnswer),
+    /// The generated catalogue planned and counted.
+    Counted(Counted),
+    /// The contacts of a plan allotted to antennas.
+    Booked(BookPlan),
 }
 
 /// What a run comes to.
@@ -74,6 +80,8 @@ fn is_whole(product: &Product) -> bool
         Product::Plan(plan) => plan.whole(),
         Product::Shown(_) => true,
         Product::Located(answer) => answer.is_placed(),
+        Product::Counted(counted) => counted.is_whole(),
+        Product::Booked(book) => book.whole(),
     }
 }
 

@@ -6,8 +6,10 @@ ghost use Rattle.top_call.specs.Request.{command_of, files_in, files_of};
 ghost use Rattle.top_call.specs.Run.{IsRun, IsSafeRun};
 
 use crate::outcome::{Outcome, Product, outcome_of};
+use book_command::run_book;
 use day_command::run_day;
 use elements::Text;
+use grid_command::run_grid;
 use locate_command::run_locate;
 use outside_io::{NeverFailShelf, NeverFailSink, Shelf, Sink};
 use pass_text::{usage_line, window_fault_line};
@@ -84,6 +86,17 @@ fn run_request<S: Shelf, K: Sink>(
             let satellites = text_at(words, catalogue);
             let places = text_at(words, stations);
             run_plan(alloc, satellites, places, window, shelf, out).map(Product::Plan)
+        }
+        Request::Grid { count } => run_grid(alloc, count, out).map(Product::Counted),
+        Request::Book {
+            catalogue,
+            stations,
+            window,
+            antennas,
+        } => {
+            let satellites = text_at(words, catalogue);
+            let places = text_at(words, stations);
+            run_book(alloc, satellites, places, window, antennas, shelf, out).map(Product::Booked)
         }
     }
 }

@@ -1,6 +1,6 @@
 use Rattle.run_ends.proofs.MappedLemmas.{mapped_is}
-use Rattle.top_call.proofs.RequestLemmas.{day_run, locate_run, plan_allowed, plan_run, show_run}
-use Rattle.top_call.specs.declared.outcome.Product.TheVariants.{Day, Plan, Shown, Located}
+use Rattle.top_call.proofs.RequestLemmas.{book_allowed, book_run, day_run, grid_run, locate_run, plan_allowed, plan_run, show_run}
+use Rattle.top_call.specs.declared.outcome.Product.TheVariants.{Day, Plan, Shown, Located, Counted, Booked}
 use Rattle.top_call.proofs.top.run_request.Goals as goal
 
 pub returns-in-Day : goal.returns-in-Day
@@ -36,3 +36,23 @@ pub run_plan-requires-clause-catalogue : goal.run_plan-requires-clause-catalogue
 run_plan-requires-clause-catalogue g c =
     plan_allowed g.S.Shelf c.args.shelf.now c.args.words.now c.args.request c.in-Plan.catalogue c.in-Plan.stations c.in-Plan.window
     c.text_at-satellites.result.now c.in-Plan.is c.text_at-satellites.ensures c.requires.allowed
+
+pub returns-in-Grid : goal.returns-in-Grid
+returns-in-Grid g c =
+    rw c.in-Grid.is
+    (grid_run g.S.Shelf g.K.Sink c.args.words.now c.args.shelf.now c.args.shelf.now c.args.out.now c.run_grid.new.out
+    c.in-Grid.count c.run_grid.result c.map-in-Grid.result (mapped_is Counted (λ p q is. is) c.run_grid.result c.map-in-Grid.result c.map-in-Grid.ensures)
+    c.run_grid.ensures.product c.run_grid.ensures.written c.run_grid.ensures.cause)
+
+pub returns-in-Book : goal.returns-in-Book
+returns-in-Book g c =
+    rw c.in-Book.is
+    (book_run g.S.Shelf g.K.Sink c.args.words.now c.args.shelf.now c.run_book.new.shelf c.args.out.now c.run_book.new.out
+    c.in-Book.catalogue c.in-Book.stations c.in-Book.window c.in-Book.antennas c.text_at-satellites-in-Book.result.now c.text_at-places-in-Book.result.now c.run_book.result
+    c.map-in-Book.result (mapped_is Booked (λ p q is. is) c.run_book.result c.map-in-Book.result c.map-in-Book.ensures)
+    c.text_at-satellites-in-Book.ensures c.text_at-places-in-Book.ensures c.run_book.ensures)
+
+pub run_book-requires-clause-catalogue : goal.run_book-requires-clause-catalogue
+run_book-requires-clause-catalogue g c =
+    book_allowed g.S.Shelf c.args.shelf.now c.args.words.now c.args.request c.in-Book.catalogue c.in-Book.stations c.in-Book.window c.in-Book.antennas
+    c.text_at-satellites-in-Book.result.now c.in-Book.is c.text_at-satellites-in-Book.ensures c.requires.allowed
