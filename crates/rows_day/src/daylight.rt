@@ -85,6 +85,8 @@ fn likely_spans_of(product: &Product) -> Option<u32> {
         Product::Plan(_) => None,
         Product::Shown(_) => None,
         Product::Located(_) => None,
+        Product::Counted(_) => None,
+        Product::Booked(_) => None,
     }
 }
 

@@ -35,6 +35,8 @@ fn is_located(product: &Product, published: &Published) -> bool {
         Product::Day(_) => false,
         Product::Plan(_) => false,
         Product::Shown(_) => false,
+        Product::Counted(_) => false,
+        Product::Booked(_) => false,
     }
 }
 
