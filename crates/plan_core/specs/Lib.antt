@@ -3,6 +3,7 @@ pub mod Contacts
 pub mod Fates
 pub mod Filled
 pub mod Kept
+pub mod NoneLost
 pub mod Readers
 pub mod State
 pub mod Whole
