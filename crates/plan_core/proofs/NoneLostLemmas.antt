@@ -1,7 +1,8 @@
 -- Contacts that are longer than the resolution meet a visible span.
-use Rattle.std.proofs.Common.{◌≡◌, arith, ℕ, suc, ◌<◌, ◌≤◌, ◌+◌, ℤ, pos, List, [], ◌∷◌, All, map, length, refl, sym, subst, ⊎_elim, ◌∙◌, Contains}
+use Rattle.std.proofs.Common.{◌≡◌, arith, ℕ, zero, suc, Some, slice_get, ◌<◌, ◌≤◌, ◌+◌, ℤ, pos, List, [], ◌∷◌, All, map, length, refl, sym, subst, ⊎_elim, ◌∙◌, Contains}
 use Rattle.std.proofs.lemmas.Int.{ints}
 use Rattle.std.proofs.lemmas.List.Elements.{All-head, All-tail}
+use Rattle.std.proofs.lemmas.Option.{none-some, same_Some}
 use native.Mathlib.Nat.{zero-lt-suc}
 use Rattle.elements.specs.Elements.{ElementsRecord}
 use Rattle.exact.specs.Rational.{ℚ, of_int, ◌+ℚ◌, ◌≤ℚ◌, ◌<ℚ◌}
@@ -22,7 +23,7 @@ use Rattle.sgp4_model.specs.declared.span.Mark.TheVariants.{Yes, No, Undecided}
 use Rattle.sgp4_model.specs.declared.span.Span.{Span}
 use Rattle.sgp4_model.proofs.RoundLemmas.{some_sector_holds}
 use Rattle.sgp4_model.proofs.SectorLemmas.{none_is_both}
-use Rattle.station_file.specs.Rows.{IsStationRow, record_of_sector}
+use Rattle.station_file.specs.Rows.{AreStations, IsStationRow, StationsRecord, record_of_sector}
 use Rattle.station_file.specs.declared.row.StationRow.{StationRow}
 use Rattle.station_view.proofs.RoundLemmas.{are_round}
 
@@ -124,6 +125,15 @@ module _ (track : TrackRecord) (resolution : ℕ) (a b : ℚ) (none : (place : �
       (λ h. meets_here from first rest to leads differ all low h high)
       (λ h. later first rest a b (meets first.to rest to leads.2 differ.1 (All-tail (IsTrueSpan track resolution) first rest all) h high))
       (le_total a (of_int (pos first.to)))
+
+-- a station of a list is in its ranges
+pub station_in_range : (stations : StationsRecord) (k : ℕ) (station : StationRow) → AreStations stations → slice_get stations.rows k ≡ Some station → IsStationRow station
+station_in_range stations k station are e = found stations.rows k are.rows_are.rows_are.each e
+  where
+    found : (rows : List StationRow) (k : ℕ) → All IsStationRow rows → slice_get rows k ≡ Some station → IsStationRow station
+    found [] k all e = absurd (none-some station e)
+    found (row ∷ rows) zero all e = subst IsStationRow (same_Some row station e) (All-head IsStationRow row rows all)
+    found (row ∷ rows) (suc k) all e = found rows k (All-tail IsStationRow row rows all) e
 
 -- where some solution is above the mask, not every one is below it
 not_hidden : (setting : SettingRecord) (set : ElementsRecord) (station : StationRow) → IsStationRow station → (place : ℚ) → IsAboveAt setting set station place →

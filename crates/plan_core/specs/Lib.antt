@@ -3,6 +3,7 @@ pub mod Contacts
 pub mod Fates
 pub mod Filled
 pub mod Kept
+pub mod LostAt
 pub mod NoneLost
 pub mod Readers
 pub mod State
