@@ -1,4 +1,5 @@
 mod LawLemmas
+mod LostLemmas
 pub mod NumberedLemmas
 mod PartLemmas
 mod RowLemmas

@@ -1,4 +1,5 @@
 pub mod Head
+pub mod NoneLost
 pub mod Parts
 pub mod PlanLaws
 pub mod Planned

@@ -1,4 +1,5 @@
 //! Laws of certified plans.
+ghost use Rattle.plan_command.specs.NoneLost.{PlansLoseNoContact};
 ghost use Rattle.plan_command.specs.PlanLaws.{ClearRowsAreResolved, LightSpansAreTrue, PairSpansAreTrue, PlansListEachSatellite, RowsAreCertified};
 
 /// A certified plan lists each satellite of its catalogue, in order, as one that may be refused for its fault, or as one that
@@ -28,4 +29,10 @@ pub fn pair_spans_are_true()
 /// undecided span is no longer than the resolution and only grazes.
 pub fn light_spans_are_true()
     ensures { LightSpansAreTrue }
+{}
+
+/// No contact is lost: where some solution is above the mask at each instant of a stretch that is longer than the resolution,
+/// this stretch has an instant in common with a visible span, in each row of a certified plan that is spans.
+pub fn plans_lose_no_contact()
+    ensures { PlansLoseNoContact }
 {}

@@ -1,7 +1,10 @@
 //! A run of the command.
 ghost use Rattle.std.specs.Prelude.{◌≡◌, IfOk};
 ghost use Rattle.plan_command.specs.Parts.{plan_text};
-ghost use Rattle.plan_command.specs.Planned.{IsPlanFor, plan_of};
+ghost use Rattle.plan_command.specs.Planned.{IsPlanFor, plan_of, setting_of};
+ghost use Rattle.plan_core.specs.Certificate.{IsPlanOf};
+ghost use Rattle.plan_core.specs.State.{plan_record};
+ghost use Rattle.plan_text.specs.Plan.{most_spans};
 ghost use Rattle.run_ends.specs.Endings.{IsForMemory, WithProduct};
 ghost use Rattle.run_ends.specs.Printed.{IsWritten};
 ghost use Rattle.run_ends.specs.Runs.{IsRunOf};
@@ -75,7 +78,7 @@ fn write_planned<K: Sink>(alloc: Global, plan: Plan, out: &mut K) -> Ending<Plan
     }
 }
 
-/// The plan of satellites over stations.
+/// The plan of satellites over stations. Stations are in their ranges.
 fn planned(
     alloc: Global,
     satellites: Catalogue,
@@ -83,6 +86,19 @@ fn planned(
     window: Window,
 ) -> Result<Plan, OutOfMemory>
     ensures { IfOk result (IsPlanFor satellites places window) }
+{
+    let _stations = places.len();
+    certified(alloc, satellites, places, window)
+}
+
+/// The plan of satellites over stations, certified.
+fn certified(
+    alloc: Global,
+    satellites: Catalogue,
+    places: Stations,
+    window: Window,
+) -> Result<Plan, OutOfMemory>
+    ensures { IfOk result (λ plan. IsPlanOf most_spans satellites (setting_of places window) (plan_record plan)) }
 {
     match Planner::make(alloc, satellites, places, window, SLOTS) {
         Ok(planner) => Ok(planner.plan()),

@@ -2,6 +2,7 @@ mod FateLemmas
 mod FillLemmas
 mod KeptLemmas
 mod ListLemmas
+pub mod NoneLostLemmas
 mod PlanLemmas
 mod ReaderLemmas
 mod RowLemmas

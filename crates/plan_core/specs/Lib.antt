@@ -3,6 +3,8 @@ pub mod Contacts
 pub mod Fates
 pub mod Filled
 pub mod Kept
+pub mod LostAt
+pub mod NoneLost
 pub mod Readers
 pub mod State
 pub mod Whole

@@ -3,6 +3,7 @@
 
 mod fate;
 mod fill;
+pub mod laws;
 mod plan;
 mod planner;
 mod sat_row;

@@ -2,11 +2,12 @@
 ghost use Rattle.std.specs.Prelude.{◌≡◌, ◌<◌, ◌≤◌, ℕ, [], length, map, slice_get, All, IfOk, None, Some};
 ghost use Rattle.catalogue.specs.declared.entry.Entry.{Entry};
 ghost use Rattle.station_file.specs.declared.row.StationRow.{StationRow};
-ghost use Rattle.span_bisect.specs.Answer.{IsAnswer, IsPoolAfter};
+ghost use Rattle.span_bisect.specs.Answer.{IsAnswer, IsPoolAfter, answer_spans};
 ghost use Rattle.span_pool.specs.Pool.{Holds, IsReleased, KeepsOthers, list_at, list_of, slots_used};
 ghost use Rattle.plan_core.specs.Certificate.{IsPlanOf, light_of, sight_of};
 ghost use Rattle.plan_core.specs.Fates.{IsExactFate, IsFate};
 ghost use Rattle.plan_core.specs.Kept.{IsKept};
+ghost use Rattle.plan_core.specs.LostAt.{LosesNoneAt};
 ghost use Rattle.plan_core.specs.Readers.{IsReady};
 ghost use Rattle.plan_core.specs.State.{IsPlanBy, entry_of, plan_record};
 
@@ -84,11 +85,13 @@ impl Planner {
         self.satellites[sat as usize].row().fate
     }
 
-    /// The spans of a satellite at a station, in slots of the pool. The satellite is accepted.
+    /// The spans of a satellite at a station, in slots of the pool. The satellite is accepted. No contact that is longer than the
+    /// resolution is lost.
     pub fn track(&mut self, sat: u32, station: u32) -> TrackAnswer
         requires accepted { slice_get self.old.fates sat ≡ Some None }
         requires station { station < length self.old.setting.stations.rows }
         ensures certified { (entry : Entry) (row : StationRow) → slice_get self.old.entries sat ≡ Some entry → slice_get self.old.setting.stations.rows station ≡ Some row → IsAnswer (sight_of self.old.setting entry.elements row) self.old.setting.window.resolution self.old.pool self.new.pool result }
+        ensures none_lost { LosesNoneAt self.old sat station result (answer_spans self.new.pool result) }
         ensures pool { IsPoolAfter self.old.pool self.new.pool result }
         ensures kept { IsKept self.old.pool self.new.pool }
         ensures same { self.new ≡ record self.old { pool = self.new.pool } }

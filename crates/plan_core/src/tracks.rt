@@ -7,6 +7,7 @@ ghost use Rattle.sgp4_model.specs.LitSolution.{lit_track};
 ghost use Rattle.sgp4_motion.specs.Fate.{IsFar};
 ghost use Rattle.span_bisect.specs.Answer.{IsPoolAfter};
 ghost use Rattle.elements.specs.Offset.{IsOffset};
+ghost use Rattle.station_file.specs.Rows.{AreStations};
 ghost use Rattle.station_file.specs.declared.row.StationRow.{StationRow};
 ghost use Rattle.orbit_sight.specs.Scene.{record_of_station as place_record};
 ghost use Rattle.plan_core.specs.Certificate.{light_of, sight_of};
@@ -70,6 +71,7 @@ pub(crate) fn track_pair(
     requires accepted { satellite.now.fate ≡ None }
     requires station { station < length setting.now.stations.rows }
     ensures row { (row : StationRow) → slice_get setting.now.stations.rows station ≡ Some row → IsRowMade (sight_of setting.now satellite.now.set row) setting.now.window.resolution pool.old pool.new result.answer }
+    ensures stations { AreStations setting.now.stations }
     ensures pool { IsPoolAfter pool.old pool.new result.answer }
     ensures kept { IsKept pool.old pool.new }
 {

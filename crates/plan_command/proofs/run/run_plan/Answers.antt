@@ -18,8 +18,9 @@ returns-in-Ok-load_stations g c =
       places = c.in-Ok-load_stations.places;
       of_catalogue = answer;
       of_stations = places;
-      certified = h;
-      resolved = clear_rows_are_resolved most_spans c.in-Ok.satellites (setting_of c.in-Ok-load_stations.places c.args.window) (plan_record plan) h;
+      certified = h.certified;
+      resolved = clear_rows_are_resolved most_spans c.in-Ok.satellites (setting_of c.in-Ok-load_stations.places c.args.window) (plan_record plan) h.certified;
+      none_lost = h.none_lost;
     }) c.write_plan.ensures.product)
     c.write_plan.ensures.written c.write_plan.ensures.cause
 
