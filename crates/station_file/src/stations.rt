@@ -13,7 +13,7 @@ pub struct Stations {
 }
 
 impl Model for Stations {
-    ghost use Rattle.station_file.specs.Rows.{AreStations, StationsRecord, IsStationRow, IsStations};
+    ghost use Rattle.station_file.specs.Rows.{AreStations, StationsRecord};
 
     ghost Value = { StationsRecord };
 
@@ -25,6 +25,7 @@ impl Model for Stations {
 impl Stations {
     ghost use Rattle.std.specs.Prelude.{pos};
     ghost use Rattle.elements.specs.Offset.{IsOffset};
+    ghost use Rattle.station_file.specs.Rows.{AreStations, IsStationRow, IsStations};
 
     /// The stations of these rows: 1 to 64, each in its ranges, whose names differ. UT1 is UTC.
     pub fn of(rows: Vec<StationRow>) -> Stations
