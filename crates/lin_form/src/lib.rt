@@ -4,6 +4,7 @@
 mod bands;
 mod laws;
 pub mod lin;
+mod parts;
 
 pub use laws::covered_lies_between;
 pub use lin::Lin;
