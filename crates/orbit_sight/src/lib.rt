@@ -15,6 +15,7 @@ mod position;
 mod scene;
 mod side_over;
 mod sight_over;
+mod slopes;
 mod verdict;
 mod verdict_over;
 
