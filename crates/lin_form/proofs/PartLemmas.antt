@@ -1,15 +1,15 @@
 -- Where covered numbers are above 0.
 use lib.Signed.{le_z}
-use Rattle.std.proofs.Common.{◌≡◌, true, false, ◌∙◌, arith, refl, subst, sym, ap, [], ◌∷◌, ℕ, ℤ, pos, negsuc, neg_ℤ, ◌-◌, ◌*◌, ◌/◌, ◌<◌, ◌≤◌, ◌+ℤ◌, ◌-ℤ◌, ◌*ℤ◌, ◌≤ℤ◌, ◌<ℤ◌, unsigned_abs}
+use Rattle.std.proofs.Common.{max, min, ◌⊎◌, inl, inr, ⊎_elim, ◌≡◌, true, false, ◌∙◌, arith, refl, subst, sym, ap, [], ◌∷◌, ℕ, ℤ, pos, negsuc, neg_ℤ, ◌-◌, ◌*◌, ◌/◌, ◌<◌, ◌≤◌, ◌+ℤ◌, ◌-ℤ◌, ◌*ℤ◌, ◌≤ℤ◌, ◌<ℤ◌, unsigned_abs}
 use Rattle.std.proofs.Math.Nat.{div-mul-le_self, mul-le-mul, mul-le-mul_right, mul_comm, mul_left_comm, mul_assoc}
 use Rattle.std.proofs.lemmas.Int.{ints}
 use Rattle.algebra.proofs.IntRing.{ring_ℤ, reads_ℤ}
 use Rattle.exact.specs.Rational.{ℚ, of_int, ratio, ◌+ℚ◌, ◌-ℚ◌, ◌*ℚ◌, neg_ℚ, zero_ℚ, ◌≤ℚ◌, ◌<ℚ◌}
 use Rattle.exact.proofs.RationalRing.{ring, reads}
-use Rattle.exact.proofs.Order.{NonNeg, gap, same_sign, ◌⊕◌, ◌⊗◌}
+use Rattle.exact.proofs.Order.{NonNeg, gap, le_trans, same_sign, ◌⊕◌, ◌⊗◌}
 use Rattle.exact.proofs.Bounds.{by_sign}
 use Rattle.exact.proofs.Integers.{of_int_add, of_int_is, of_int_le, of_int_mul, of_int_neg}
-use Rattle.exact.proofs.Strict.{Positive, lt_by, not_both, positive_by, positive_known, positive_product, positive_sum}
+use Rattle.exact.proofs.Strict.{Positive, lt_by, not_both, positive_by, positive_gap, positive_known, positive_product, positive_sum}
 use Rattle.fixed_iv.specs.Ends.{in_units}
 use Rattle.fixed_iv.specs.Place.{Place}
 use Rattle.lin_form.specs.Covered.{on_slope}
@@ -154,6 +154,10 @@ pub above_falling : (h : Place) (p k : ℕ) (m w : ℚ) (c s u : ℤ) → pos 0 
 above_falling h p k m w c s u high begins falls above among f g t =
     by_sign h.at (λ n. positive_to_end h p k m w c s above falls among f (n ⊗ gap g)) (λ n. positive_before h m w c u high begins f t n)
 
+-- ---- of a negative
+pub below_by_negative : (x : ℚ) → zero_ℚ <ℚ neg_ℚ x → x <ℚ zero_ℚ
+below_by_negative x h = lt_by (x ∷ []) (positive_gap h) (search reads depth 90) tt
+
 -- ---- out of units
 pub above_0 : (h : Place) (x m w : ℚ) → x ≡ on_slope h m w → Positive (in_units m +ℚ h.at *ℚ in_units w) → zero_ℚ <ℚ x
 above_0 h x m w e p =
@@ -163,3 +167,35 @@ above_0 h x m w e p =
 -- the other way round
 pub reversed_on : (h g : Place) (x m w : ℚ) → g.at ≡ neg_ℚ h.at → x ≡ on_slope h m w → x ≡ on_slope g m (neg_ℚ w)
 reversed_on h g x m w e is = is ∙ ring (h.at ∷ m ∷ w ∷ []) {y = m +ℚ neg_ℚ h.at *ℚ neg_ℚ w} (search reads depth 90) tt ∙ ap (λ t. m +ℚ t *ℚ neg_ℚ w) (sym e)
+
+-- ---- fewer parts, and the larger of two counts
+pub among_fewer : {h : Place} {k l p : ℕ} → k ≤ l → IsAmongFirst h k p → IsAmongFirst h l p
+among_fewer {h} {k} {l} {p} more among = record {
+  some = omega (arith, more, among.some);
+  within = le_trans among.within (of_int_le {a = pos (2 * k)} {b = pos (2 * l)} (omega (arith, ints, more)));
+}
+
+pub among_either : {h : Place} {k a b p : ℕ} → k ≡ max a b → IsAmongFirst h k p → IsAmongFirst h a p ⊎ IsAmongFirst h b p
+among_either {h} {k} {a} {b} {p} is among = ⊎_elim (λ e. inl (among_fewer e among)) (λ e. inr (among_fewer e among)) (one a b k is)
+  where
+    one : (a b k : ℕ) → k ≡ max a b → (k ≤ a) ⊎ (k ≤ b)
+    one a b k is = grind (arith, is)
+
+pub among_both : {h : Place} {k a b p : ℕ} → k ≡ min a b → IsAmongFirst h k p → IsAmongFirst h a p × IsAmongFirst h b p
+among_both {h} {k} {a} {b} {p} is among = (among_fewer (left a b k is) among, among_fewer (right a b k is) among)
+  where
+    left : (a b k : ℕ) → k ≡ min a b → k ≤ a
+    left a b k is = grind (arith, is)
+
+    right : (a b k : ℕ) → k ≡ min a b → k ≤ b
+    right a b k is = grind (arith, is)
+
+-- ---- strict orders
+pub not_below : (x : ℚ) → x <ℚ zero_ℚ → zero_ℚ ≤ℚ x → ⊥
+not_below x h k = not_both (positive_gap h) (same_sign (ring (x ∷ []) (search reads depth 90) tt) (gap k))
+
+pub lt_of_difference : (x y : ℚ) → zero_ℚ <ℚ y -ℚ x → x <ℚ y
+lt_of_difference x y h = lt_by (x ∷ y ∷ []) (positive_gap h) (search reads depth 90) tt
+
+pub gt_of_difference : (x y : ℚ) → y -ℚ x <ℚ zero_ℚ → y <ℚ x
+gt_of_difference x y h = lt_by (x ∷ y ∷ []) (positive_gap h) (search reads depth 90) tt

@@ -3,6 +3,14 @@ ghost use Rattle.std.specs.Prelude.{◌≤◌, ◌<◌, ◌<ℤ◌, pos};
 ghost use Rattle.lin_form.specs.Parts.{IsAboveAfter};
 
 use crate::Lin;
+use fixed_iv::Enc;
+
+/// In how many parts of a cell, from one end on, yes is certain, and in how many no.
+#[derive(Clone, Copy)]
+pub struct Parts {
+    pub yes: u64,
+    pub no: u64,
+}
 
 impl Lin {
     ghost use Rattle.std.specs.Prelude.{◌≡◌, ◌≤◌, ◌<ℤ◌, pos};
@@ -19,6 +27,19 @@ impl Lin {
             centre: self.centre,
             slope: -self.slope,
             range: self.range,
+        }
+    }
+
+    /// In how many of so many equal parts of the cell, from its start on, the quantity is certainly above 0 (yes), and in how many
+    /// below (no).
+    pub fn sign_parts(self, parts: u64) -> Parts
+        ensures most { (result.yes ≤ parts) × (result.no ≤ parts) }
+        ensures yes { (h : Place) (x : ℚ) → IsCovered self h x → IsAmongFirst h result.yes parts → zero_ℚ <ℚ x }
+        ensures no { (h : Place) (x : ℚ) → IsCovered self h x → IsAmongFirst h result.no parts → x <ℚ zero_ℚ }
+    {
+        Parts {
+            yes: self.parts_above_0(parts),
+            no: self.negate().parts_above_0(parts),
         }
     }
 
