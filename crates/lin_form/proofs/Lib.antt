@@ -1,3 +1,4 @@
 mod BandLemmas
 mod BetweenLemmas
 mod LinLemmas
+pub mod PartLemmas

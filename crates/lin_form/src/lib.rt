@@ -4,6 +4,8 @@
 mod bands;
 mod laws;
 pub mod lin;
+pub mod parts;
 
 pub use laws::covered_lies_between;
 pub use lin::Lin;
+pub use parts::Parts;

@@ -17,5 +17,6 @@ mod SceneLemmas
 mod SideLemmas
 mod SolutionLemmas
 mod SomePi
+mod SurveyLemmas
 mod TakenBoxesLemmas
 mod WidthLemmas

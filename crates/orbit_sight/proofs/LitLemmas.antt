@@ -1,7 +1,7 @@
 -- The shadow's numbers of lit solutions: how large they are, and what bounds around 0 say of them.
 use Rattle.std.proofs.Common.{◌≡◌, [], ◌∷◌, arith, sym, subst, ap, ◌∙◌, ◌^◌, ◌*◌, ◌+◌, ◌-◌, ◌<◌, ◌≤◌, ℕ, ℤ, pos, negsuc, ◌≤ℤ◌, ◌<ℤ◌, ◌⊎◌, inl, inr, ⊎_elim}
 use Rattle.std.proofs.lemmas.Int.{ints}
-use Rattle.exact.specs.Rational.{ℚ, ◌+ℚ◌, ◌-ℚ◌, ◌*ℚ◌, ◌^ℚ◌, neg_ℚ, of_int, one_ℚ, ratio, zero_ℚ, ◌≤ℚ◌}
+use Rattle.exact.specs.Rational.{ℚ, ◌+ℚ◌, ◌-ℚ◌, ◌*ℚ◌, ◌^ℚ◌, of_int, one_ℚ, ratio, zero_ℚ, ◌≤ℚ◌}
 use Rattle.exact.proofs.Bounds.{square}
 use Rattle.exact.proofs.Integers.{of_int_is, of_int_le, le_of_int}
 use Rattle.exact.specs.Interval.{Inside, Interval, between}
@@ -23,7 +23,7 @@ use Rattle.sgp4_model.specs.LitSolution.{EachLitSolution, IsLitSolution}
 use Rattle.sgp4_model.specs.PositionAt.{IsPositionAt}
 use Rattle.sgp4_model.specs.Records.{SetRecord}
 use Rattle.sgp4_model.specs.Sun.{IsSun}
-use Rattle.sgp4_model.specs.Time.{IsWithin, instant_of_place}
+use Rattle.sgp4_model.specs.Time.{IsWithin, Throughout, instant_of_place}
 use Rattle.sgp4_model.specs.Vector.{Vector}
 use Rattle.sgp4_model.proofs.Pythagoras.{squares_add_up_to_one}
 use Rattle.sun_shade.specs.Judged.{IsUndecided}
@@ -147,6 +147,13 @@ on_cell start m n place h w =
 pub each_at : {set : SetRecord} {fact : ShadowRecord → Type 0} (start : ℤ) (m n : ℕ) (place : ℚ) (on : IsOnCell (cell_of start m n) place) → EachPlaceHasALit set (cell_of start m n) →
     ((v : ShadowRecord) → IsLitSolution set (instant_on (cell_of start m n) on.at) v → fact v) → EachLitSolution set start fact place
 each_at {set} {fact} start m n place on exists each = subst (λ z. OfEach (IsLitSolution set (instant_of_place start z)) fact) on.is (record { some = exists on.at; each = each })
+
+-- what holds of each on a part of the cell holds throughout it
+pub throughout_part : {set : SetRecord} {fact : ShadowRecord → Type 0} (start : ℤ) (m n a b : ℕ) → m < n → ((q : ℚ) → IsWithin a b q → IsWithin m n q) → EachPlaceHasALit set (cell_of start m n) →
+    ((h : Place) (v : ShadowRecord) (q : ℚ) → IsWithin a b q → on_line h (of_int (pos m)) (of_int (pos n)) ≡ q → IsLitSolution set (instant_on (cell_of start m n) h) v → fact v) → Throughout a b (EachLitSolution set start fact)
+throughout_part start m n a b longer inside exists each q w =
+    let on = on_cell start m n q longer (inside q w) in
+    each_at start m n q on exists (λ v p. each on.at v q w on.is p)
 
 -- ---- bounds no wider than a spread
 pub no_wider : {n : ℕ} {e : Extent} → IsSpreadWithin n e → IsNoWider n e.ends

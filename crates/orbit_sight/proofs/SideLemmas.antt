@@ -8,14 +8,14 @@ use Rattle.decimals.specs.Decimal.{value}
 use Rattle.fixed_iv.specs.Place.{Place, on_line}
 use Rattle.fixed_iv.specs.declared.enc.Enc.{Ghosts}
 use Rattle.fixed_iv.proofs.Held.{Contained}
-use Rattle.sgp4_model.specs.Angle.{part}
+use Rattle.sgp4_model.specs.Angle.{IsPi, part}
 use Rattle.sgp4_model.specs.Degrees.{radians}
 use Rattle.sgp4_model.specs.EachSolution.{OfEach}
 use Rattle.sgp4_model.specs.Grazing.{EachSolution, GrazesMask}
 use Rattle.sgp4_model.specs.Mask.{GrazesBy, SomeSector}
 use Rattle.sgp4_model.specs.Numerals.{decimal}
 use Rattle.sgp4_model.specs.Records.{SetRecord, StationRecord}
-use Rattle.sgp4_model.specs.Sectors.{SectorSides, TouchesBy}
+use Rattle.sgp4_model.specs.Sectors.{AreMaskPairs, SectorPairs, SectorSides, TouchesBy, sides_of}
 use Rattle.sgp4_model.specs.Sidereal.{in_ut1, sidereal_angle}
 use Rattle.sgp4_model.specs.Sight.{SightRecord}
 use Rattle.sgp4_model.specs.Solution.{IsSolution, SolutionRecord}
@@ -26,7 +26,8 @@ use Rattle.sgp4_model.proofs.SolutionExists.{solution_exists}
 use Rattle.station_view.specs.Bounds.{HoldLengths, HoldSight}
 use Rattle.station_view.specs.Fine.{sight_bounds}
 use Rattle.station_view.specs.Judged.{AreNarrowLengths, EveryLengths, GrazesWithinLength}
-use Rattle.station_view.specs.Lengths.{CoversEachLengths, at_range, bounds_of}
+use Rattle.station_view.specs.Lengths.{CoversEachLengths, CoversLengths, at_range, bounds_of}
+use Rattle.station_view.specs.Masks.{records_of}
 use Rattle.station_view.specs.declared.station.Station.{Station}
 use Rattle.station_view.specs.declared.vector.Lengths.{Lengths}
 use Rattle.station_view.specs.declared.vector.Sight.{Sight}
@@ -59,6 +60,14 @@ pub throughout : (set : SetRecord) (row : StationRecord) (start : ℤ) (m n : �
 throughout set row start m n dut1 holds h each p w =
     let o = on_cell m n p h w in
     subst (λ z. OfEach (IsSolution set row (instant_of_place start z) dut1) holds) o.is (each o.at)
+
+-- what holds of each at each place of a part of the cell holds throughout it
+pub throughout_part : (set : SetRecord) (row : StationRecord) (start : ℤ) (m n a b : ℕ) (dut1 : ℤ) (holds : SolutionRecord → Type 0) → m < n → ((q : ℚ) → IsWithin a b q → IsWithin m n q) →
+    ((h : Place) (q : ℚ) → IsWithin a b q → on_line h (of_int (pos m)) (of_int (pos n)) ≡ q → OfEach (IsSolution set row (instant_on (cell_of start m n) h) dut1) holds) →
+    Throughout a b (EachSolution set row start dut1 holds)
+throughout_part set row start m n a b dut1 holds longer inside each q w =
+    let o = on_cell m n q longer (inside q w) in
+    subst (λ z. OfEach (IsSolution set row (instant_of_place start z) dut1) holds) o.is (each o.at q w o.is)
 
 -- ---- the bounds of a direction hold it
 pub sight_throughout : {A : Type 0} (E : Ghosts A) → Contained E.covers E.extent → (set : SetRecord) (row : StationRecord) (start : ℤ) (m n : ℕ) (dut1 : ℤ) (sight : Sight A) → m < n →
@@ -113,6 +122,25 @@ module _ {A : Type 0} (E : Ghosts A) (law : Contained E.covers E.extent) (set : 
       (squares_add_up_to_one p.pi (sidereal_angle p.pi (in_ut1 dut1 (instant_on cell h))) v.turn.sine v.turn.cosine p.is_pi v.is_sidereal)
       (metres_low (value station.height) station.height_range) (metres_high (value station.height) station.height_range) v.is_place (far h p.position (position_of_solution p)).square)
       v.is_direction.range_is
+
+  -- the lengths of each solution are covered
+  lengths_covered : {lengths : Lengths A} → CoversEachLengths E station scene.turn scene.position lengths → (h : Place) (s : SolutionRecord) → IsSolution set (record_of_station station) (instant_on cell h) dut1 s →
+      CoversLengths E lengths h (at_range s.sight s.range)
+  lengths_covered covers h s p =
+      let v = p.is_sight in
+      covers h p.pi v.of_latitude v.of_longitude v.turn v.place p.position (stands station p) (covered.turns h p.pi v.turn p.is_pi v.is_sidereal)
+      (as_vector E scene (covered.positions h p.position (position_of_solution p))) s.range s.sight v.is_direction
+
+  -- what holds of every direction and range that are covered at a place holds of each solution; and there is one
+  pub each_covered : {lengths : Lengths A} (fact : List SectorSides → SightRecord → Type 0) → CoversEachLengths E station scene.turn scene.position lengths → (h : Place) →
+      ((pi : ℚ) (pairs : List SectorPairs) (v : SightRecord) (range : ℚ) → IsPi pi → AreMaskPairs pi (records_of station.mask) pairs → zero_ℚ <ℚ range → CoversLengths E lengths h (at_range v range) → fact (sides_of pairs) v) →
+      OfEach (IsSolution set (record_of_station station) (instant_on cell h) dut1) (λ s. fact s.sectors s.sight)
+  each_covered fact covers h every = record {
+    some = let r = exists h in solution_exists set (record_of_station station) (instant_on cell h) dut1 r.0 r.1;
+    each = λ s p.
+        subst (λ z. fact z s.sight) (sym p.sectors_are)
+        (every p.pi p.pairs s.sight s.range p.is_pi p.are_pairs (range_positive s.range (range_of h s p)) (lengths_covered covers h s p));
+  }
 
   -- the lengths of each solution lie in the bounds
   lengths_hold : {lengths : Lengths A} → CoversEachLengths E station scene.turn scene.position lengths → (h : Place) (s : SolutionRecord) → IsSolution set (record_of_station station) (instant_on cell h) dut1 s →

@@ -8,6 +8,8 @@ use Rattle.fixed_iv.specs.Holds.{Holds}
 use Rattle.fixed_iv.specs.Place.{Place}
 use Rattle.fixed_iv.specs.declared.enc.Enc.{Ghosts}
 use Rattle.fixed_iv.specs.declared.iv.Iv.{Iv}
+use Rattle.lin_form.specs.Covered.{IsCovered}
+use Rattle.lin_form.specs.declared.lin.Lin.{Lin}
 use Rattle.sgp4_model.specs.Certified.{TrackRecord}
 use Rattle.sgp4_model.specs.Light.{ShadowRecord}
 use Rattle.sgp4_model.specs.LitSolution.{EachLitSolution, IsLitSolution, lit_track}
@@ -38,6 +40,11 @@ module _ (set : SetRecord) (cell : CellRecord) where
   -- each is far out
   abbrev pub EachLitIsFarOut : Type 0
   EachLitIsFarOut = (h : Place) (v : ShadowRecord) → IsLitSolution set (instant_on cell h) v → ratio (pos 1069) 1000 ≤ℚ square_of v
+
+-- the slope enclosures cover the numbers at the place
+pub record CoverShadow (shade : Shade Lin) (h : Place) (v : ShadowRecord) : Type 0 where
+  pub p : IsCovered shade.p h v.p
+  pub g : IsCovered shade.g h v.g
 
 -- the depth has a spread of at most 2^-17, the height of at most 2^-13
 pub record IsLeastShade {A : Type 0} (E : Ghosts A) (shade : Shade A) : Type 0 where

@@ -9,12 +9,16 @@ mod daylight;
 mod far;
 mod lit_judge;
 mod lit_over;
+mod lit_survey;
 mod moment;
 mod pair_judge;
+mod pair_survey;
 mod position;
 mod scene;
 mod side_over;
 mod sight_over;
+mod slopes;
+mod survey;
 mod verdict;
 mod verdict_over;
 

@@ -7,10 +7,12 @@ ghost use Rattle.sgp4_model.specs.Time.{Somewhere};
 
 use crate::craft::Craft;
 use crate::lit_over::{ends_of, lit_over, shade_over};
+use crate::slopes::are_slopes_of_use;
 use crate::verdict::verdict_of;
 use elements::Window;
 use enc_plain::Plain;
 use fixed_iv::Iv;
+use lin_form::Lin;
 use span_bisect::{Judge, Verdict};
 use sun_shade::Shade;
 
@@ -60,6 +62,9 @@ impl<'a> Judge for LitJudge<'a> {
     }
 
     fn judge(&self, from: u64, to: u64) -> Verdict {
+        if are_slopes_of_use(to - from) {
+            return verdict_of(lit_over::<Lin>(self.craft, &self.window, from, to), false);
+        }
         let side = lit_over::<Plain>(self.craft, &self.window, from, to);
         verdict_of(side, to - from == 1)
     }

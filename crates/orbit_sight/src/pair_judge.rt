@@ -9,10 +9,14 @@ ghost use Rattle.sgp4_model.specs.Time.{Somewhere};
 ghost use Rattle.station_view.specs.Judged.{IsNarrowSight};
 
 use crate::craft::Craft;
+use crate::side_over::side_over;
+use crate::slopes::are_slopes_of_use;
+use crate::verdict::verdict_of;
 use crate::verdict_over::{sight_at, verdict_over};
 use elements::Window;
 use enc_plain::Plain;
 use fixed_iv::Iv;
+use lin_form::Lin;
 use span_bisect::{Judge, Verdict};
 use station_view::{Sight, Station};
 
@@ -79,14 +83,12 @@ impl<'a> Judge for PairJudge<'a> {
     }
 
     fn judge(&self, from: u64, to: u64) -> Verdict {
-        verdict_over::<Plain>(
-            self.craft,
-            self.station,
-            &self.window,
-            self.dut1_ms,
-            from,
-            to,
-        )
+        let (craft, station, window) = (self.craft, self.station, &self.window);
+        if are_slopes_of_use(to - from) {
+            let side = side_over::<Lin>(craft, station, window, self.dut1_ms, from, to);
+            return verdict_of(side, false);
+        }
+        verdict_over::<Plain>(craft, station, window, self.dut1_ms, from, to)
     }
 }
 

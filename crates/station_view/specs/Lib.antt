@@ -7,6 +7,7 @@ pub mod Fine
 pub mod Judged
 pub mod Lengths
 pub mod Masks
+pub mod Parts
 pub mod PlaceReach
 pub mod SightLaws
 pub mod SightReach

@@ -95,7 +95,7 @@ fn is_above_up(lengths: &Lengths<Iv>, sector: &EnclosedSector) -> bool
 }
 
 /// Whether the sector may hold the direction: no cross product is surely negative.
-fn may_hold(lengths: &Lengths<Iv>, sector: &EnclosedSector) -> bool
+pub(crate) fn may_hold(lengths: &Lengths<Iv>, sector: &EnclosedSector) -> bool
     ensures may { IsTrue result → MayHold lengths.now sector.now }
     ensures not { ¬ IsTrue result → HoldsNowhere lengths.now sector.now }
 {

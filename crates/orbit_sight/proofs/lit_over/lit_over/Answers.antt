@@ -1,5 +1,4 @@
 use Rattle.std.proofs.Common.{◌≡◌}
-use Rattle.fixed_iv.specs.declared.side.Side.{Side}
 use Rattle.fixed_iv.specs.declared.side.Side.TheVariants.{Yes, No, Unsure}
 use Rattle.orbit_sight.specs.Lit.{AreNarrow, HoldShadow}
 use Rattle.orbit_sight.proofs.LitLemmas.{each_at, narrow_bounds, on_cell, undecided_grazes}

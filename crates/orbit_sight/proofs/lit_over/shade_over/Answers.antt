@@ -3,8 +3,6 @@ use Rattle.elements.specs.Elements.{record_of_elements}
 use Rattle.fixed_iv.specs.EnclosedVector.{CoversVector}
 use Rattle.fixed_iv.specs.Reach.{from_to, ◌+ᴿ◌, ◌-ᴿ◌, ◌*ᴿ◌}
 use Rattle.fixed_iv.proofs.Held.{claim_held, within}
-use Rattle.sgp4_model.specs.Light.{shadow_of}
-use Rattle.sgp4_model.specs.LitSolution.{IsLitSolution}
 use Rattle.sgp4_model.specs.Sun.{IsSun}
 use Rattle.sgp4_model.proofs.SolutionExists.{lit_solution_exists}
 use Rattle.orbit_sight.specs.Cell.{time_of_place}

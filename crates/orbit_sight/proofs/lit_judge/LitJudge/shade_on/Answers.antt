@@ -1,5 +1,4 @@
 use Rattle.std.proofs.Common.{refl, arith, ◌+◌}
-use Rattle.orbit_sight.specs.Lit.{AreNarrow}
 use Rattle.orbit_sight.proofs.LitLemmas.{each_at, narrow_bounds, on_cell}
 use Rattle.orbit_sight.proofs.lit_judge.LitJudge.shade_on.Goals as goal
 
