@@ -174,6 +174,28 @@ row 7 $'error toolong\n' plan --catalogue=c --stations=long "${hour[@]}"
 row 2 $'error usage missing stations\n' plan --catalogue=c "${hour[@]}"
 row 3 $'error window order\n' plan --catalogue=c --stations=p --start=2000-06-27T00:00:00Z --end=2000-06-27T00:00:00Z --res=1
 
+# bookings: one contact of the whole hour, none, a satellite that is refused; and the files' faults in their order
+booked="PASSBOOK 1"$'\n'"WINDOW $over 1"$'\nSTATION 1 Pole\nSAT 90001 OK -\n'
+heads 0 "$booked"$'BOOK 1 1 36000000\n'"USE $over 90001 1"$'\n' book --catalogue=c --stations=open "${hour[@]}" --antennas=1
+row 0 "$booked"$'BOOK 1 0 0\nEND\n' book --catalogue=c --stations=p "${hour[@]}" --antennas 64
+row 1 "PASSBOOK 1"$'\n'"WINDOW $over 1"$'\nSTATION 1 Pole\nSAT 90001 DEEP -\nBOOK 1 0 0\nEND\n' \
+  book --catalogue=deep --stations=p "${hour[@]}" --antennas=01
+row 2 $'error usage value antennas\n' book --catalogue=c --stations=p "${hour[@]}" --antennas=0
+row 2 $'error usage value antennas\n' book --catalogue=absent --stations=absent "${hour[@]}" --antennas=65
+row 2 $'error usage missing antennas\n' book --catalogue=c --stations=p "${hour[@]}"
+row 4 $'error catalogue empty\n' book --catalogue=blank --stations=number "${hour[@]}" --antennas=1
+row 5 $'error stations shape 1 lat\n' book --catalogue=c --stations=number "${hour[@]}" --antennas=1
+row 6 $'error read\n' book --catalogue=c --stations=absent "${hour[@]}" --antennas=1
+
+# the generated satellites
+heads 0 $'PASSGRID 1\nSATS 1\nREFUSED 0\nVISIBLE 0 0\nHIDDEN 2 72000000\nUNDECIDED 0 0\nUNRESOLVED 0\nFULL 0\nDECAYS 0\n' \
+  grid --count=1
+holds 0 '^PASSGRID 1~SATS 20~REFUSED 0~' grid --count=20
+row 2 $'error usage value count\n' grid --count=0
+row 2 $'error usage value count\n' grid --count=1001
+row 2 $'error usage value count\n' grid --count=01
+row 2 $'error usage missing count\n' grid
+
 row 2 $'error usage nocommand\n'
 row 2 $'error usage command\n' --help
 row 2 $'error usage command\n' ''
