@@ -138,10 +138,11 @@ impl Enc for Lin {
     }
 
     fn sincos(self) -> (Lin, Lin) {
-        let (sines, cosines) = trig_enc::sincos(self.range);
         if is_zero(self.slope) || !is_slow(self.slope) {
+            let (sines, cosines) = trig_enc::sincos(self.range);
             return (Lin::level(sines), Lin::level(cosines));
         }
+        let (sines, cosines) = trig_enc::sincos(Iv::WHOLE);
         let (sine, cosine) = trig_enc::sincos(self.centre);
         let rest = turn_rest(self.slope);
         (
