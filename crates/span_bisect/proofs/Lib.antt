@@ -1,4 +1,5 @@
 pub mod GrownLemmas
 pub mod StackLemmas
+pub mod PieceLemmas
 pub mod ReadingLemmas
 pub mod MarkLemmas

@@ -2,7 +2,7 @@
 use Rattle.std.proofs.Common.{arith, ◌≡◌, ◌≢◌, ℕ, ◌+◌, ◌-◌, ◌<◌, ◌≤◌, List, [], ◌∷◌, ◌++◌, length, refl, sym, ◌∙◌, subst}
 use Rattle.std.proofs.lemmas.List.Elements.{All-nil}
 use Rattle.exact.specs.Rational.{ℚ}
-use Rattle.sgp4_model.specs.Time.{Somewhere, Throughout}
+use Rattle.sgp4_model.specs.Time.{Throughout}
 use Rattle.sgp4_model.specs.Certified.{TrackRecord, IsDecaying, IsTrueSpan, IsSoundUpTo, IsUnresolved, IsFull}
 use Rattle.sgp4_model.specs.CertifiedLaws.{EndsOtherThan}
 use Rattle.sgp4_model.proofs.TimeLemmas.{throughout_join}
@@ -10,29 +10,8 @@ use Rattle.sgp4_model.proofs.CertifiedLemmas.{sound_lists_extend}
 use Rattle.span_bisect.specs.Answer.{IsOutOfRoom}
 use Rattle.span_bisect.specs.Part.{IsPart, IsSink}
 use Rattle.sgp4_model.specs.declared.span.Mark.{Mark}
-use Rattle.sgp4_model.specs.declared.span.Mark.TheVariants.{Yes, No, Undecided}
+use Rattle.sgp4_model.specs.declared.span.Mark.TheVariants.{Undecided}
 use Rattle.sgp4_model.specs.declared.span.Span.{Span}
-
--- a part of each mark, of what a judge says
-pub part_yes : (track : TrackRecord) (from to : ℕ) → from < to → Throughout from to track.yes → IsPart track from (record { mark = Yes; from = from; to = to })
-part_yes track from to l h =
-    record { begins = refl; longer = l; certain = record { yes = λ _. h; no = λ e. absurd (cc); grazes = λ e. absurd (cc); short = λ e. absurd (cc) } }
-
-pub part_no : (track : TrackRecord) (from to : ℕ) → from < to → Throughout from to track.no → IsPart track from (record { mark = No; from = from; to = to })
-part_no track from to l h =
-    record { begins = refl; longer = l; certain = record { yes = λ e. absurd (cc); no = λ _. h; grazes = λ e. absurd (cc); short = λ e. absurd (cc) } }
-
-pub part_undecided : (track : TrackRecord) (from to : ℕ) → to ≡ from + 1 → Throughout from to track.grazes →
-    IsPart track from (record { mark = Undecided; from = from; to = to })
-part_undecided track from to l h = record {
-  begins = refl;
-  longer = omega arith;
-  certain = record { yes = λ e. absurd (cc); no = λ e. absurd (cc); grazes = λ _. h; short = λ _. omega arith };
-}
-
--- and a cell that sinks
-pub sink : (track : TrackRecord) (from to : ℕ) → from < to → to ≤ track.ticks → (to ≡ from + 1) × Somewhere from to track.sinks → IsSink track from
-sink track from to l inside h = record { inside = omega (arith, l, inside); sinks = subst (λ t. Somewhere from t track.sinks) h.0 h.1 }
 
 -- a list, sound up to where a true span of another mark than its last one begins
 pub record IsReadTo (track : TrackRecord) (resolution : ℕ) (list : List Span) (run : Span) : Type 0 where

@@ -1,4 +1,5 @@
 pub mod Answer
 pub mod Part
+pub mod Pieces
 pub mod Reading
 pub mod Stack

@@ -1,6 +1,6 @@
 //! The bisection.
 
-ghost use Rattle.std.specs.Prelude.{◌≡◌, ◌<◌, ◌≤◌, IfErr, IfNone, IfSome, None, OnOk};
+ghost use Rattle.std.specs.Prelude.{◌≡◌, ◌+◌, ◌<◌, ◌≤◌, IfErr, IfNone, IfSome, None, OnOk};
 ghost use Rattle.arrayvec.specs.ArrayVec.{array_vec_len};
 ghost use Rattle.span_bisect.specs.Answer.{HasItsCause, IsAnswer, IsPoolAfter, track_of};
 ghost use Rattle.span_bisect.specs.Part.{IsPart, IsSink};
@@ -11,6 +11,8 @@ ghost use Rattle.span_pool.specs.declared.track.Track.{Track};
 
 use crate::answer::{Cover, TrackAnswer};
 use crate::judge::{Judge, Verdict};
+use crate::pieces::cut_cell;
+use crate::stack::{Cell, put};
 use arrayvec::ArrayVec;
 use span_pool::{Full, Mark, Span, SpanPool, Track};
 
@@ -25,7 +27,7 @@ pub(crate) enum Stop {
 }
 
 /// The spans of the judge's window, in slots of the pool, with undecided spans of at most `resolution` ticks. The left
-/// half of a cell is judged first. A span takes a slot when the next one begins or the window ends; so a longer undecided
+/// part of a cell is read first. A span takes a slot when the next one begins or the window ends; so a longer undecided
 /// stretch is `Unresolved`, and a tick that sinks is `Decays`, also where the span before it would find no slot. Only
 /// `Spans` leaves slots in use.
 pub fn cover<J: Judge>(judge: &J, resolution: u64, pool: &mut SpanPool) -> Cover
@@ -74,13 +76,16 @@ fn read_track<J: Judge>(
     ensures read { OnOk result (IsRead (track_of J.Judge judge.now) resolution pool.new track.new) }
     ensures stopped { IfErr result (IsStop (track_of J.Judge judge.now) resolution pool.old) }
 {
-    let mut ends: ArrayVec<u64, 64> = ArrayVec::new();
-    ends.push(judge.ticks());
-    let Some(mut run) = next_part(judge, 0, &mut ends, cells) else {
+    let mut stack: ArrayVec<Cell, 64> = ArrayVec::new();
+    stack.push(Cell {
+        to: judge.ticks(),
+        last: None,
+    });
+    let Some(mut run) = next_part(judge, 0, &mut stack, cells) else {
         return Err(Stop::Decays { at: 0 });
     };
-    while !ends.is_empty() {
-        let Some(part) = next_part(judge, run.to, &mut ends, cells) else {
+    while !stack.is_empty() {
+        let Some(part) = next_part(judge, run.to, &mut stack, cells) else {
             return Err(Stop::Decays { at: run.to });
         };
         if part.mark == run.mark {
@@ -104,38 +109,69 @@ fn read_track<J: Judge>(
     }
 }
 
-/// Halves the next cell until the judge is certain of its left part, or this is one tick long, and takes this part
-/// off the stack. There is none where the part sinks.
+/// Reads the next cell of the stack until a part at its start is certain, or it is one tick long, and puts back what is
+/// left. There is no part where it sinks.
+// As a call it would cost more than the cheaper half of what it does.
+#[inline(always)]
 fn next_part<J: Judge>(
     judge: &J,
     at: u64,
-    ends: &mut ArrayVec<u64, 64>,
+    stack: &mut ArrayVec<Cell, 64>,
     cells: &mut u64,
 ) -> Option<Span>
-    requires more { 0 < array_vec_len ends.old }
-    requires stack { IsStack (J.tick_count judge.now) at ends.old.items }
+    requires more { 0 < array_vec_len stack.old }
+    requires stack { IsStack (track_of J.Judge judge.now) at stack.old.items }
     ensures part { IfSome result (IsPart (track_of J.Judge judge.now) at) }
-    ensures stack { IfSome result (λ part. IsStack (J.tick_count judge.now) part.to ends.new.items) }
+    ensures stack { IfSome result (λ part. IsStack (track_of J.Judge judge.now) part.to stack.new.items) }
     ensures sinks { IfNone result (IsSink (track_of J.Judge judge.now) at) }
 {
-    let Some(mut to) = ends.pop() else {
+    let Some(cell) = stack.pop() else {
         unreachable!()
     };
-    loop {
-        *cells = cells.saturating_add(1);
-        let mark = match judge.judge(at, to) {
-            Verdict::Yes => Mark::Yes,
-            Verdict::No => Mark::No,
-            Verdict::Sinks => return None,
-            Verdict::Unsure => {
-                if to - at > 1 {
-                    ends.push(to);
-                    to = at + (to - at) / 2;
-                    continue;
-                }
-                Mark::Undecided
-            }
-        };
-        return Some(Span { mark, from: at, to });
+    if let Some(part) = cell.last {
+        if at == cell.to {
+            return Some(part);
+        }
+        stack.push(cell);
     }
+    let mut to = cell.to;
+    while to - at > 1 {
+        *cells = cells.saturating_add(1);
+        let pieces = cut_cell(judge, at, to);
+        if let Some(part) = pieces.first {
+            if part.to == to {
+                return Some(part);
+            }
+            put(stack, pieces.cut, pieces.rest);
+            put(
+                stack,
+                part.to,
+                Cell {
+                    to: pieces.cut,
+                    last: None,
+                },
+            );
+            return Some(part);
+        }
+        put(stack, pieces.cut, pieces.rest);
+        to = pieces.cut;
+    }
+    *cells = cells.saturating_add(1);
+    read_tick(judge, at, to)
+}
+
+/// The part of a single tick. There is none where it sinks.
+fn read_tick<J: Judge>(judge: &J, at: u64, to: u64) -> Option<Span>
+    requires tick { to ≡ at + 1 }
+    requires inside { to ≤ J.tick_count judge.now }
+    ensures part { IfSome result (λ part. IsPart (track_of J.Judge judge.now) at part × (part.to ≡ to)) }
+    ensures sinks { IfNone result (IsSink (track_of J.Judge judge.now) at) }
+{
+    let mark = match judge.judge(at, to) {
+        Verdict::Yes => Mark::Yes,
+        Verdict::No => Mark::No,
+        Verdict::Unsure => Mark::Undecided,
+        Verdict::Sinks => return None,
+    };
+    Some(Span { mark, from: at, to })
 }

@@ -4,8 +4,10 @@
 mod answer;
 mod bisect;
 mod judge;
+mod pieces;
+mod stack;
 
 pub use answer::{Cover, TrackAnswer};
 pub use bisect::cover;
-pub use judge::{Judge, Verdict};
+pub use judge::{Judge, Survey, Verdict};
 pub use span_pool::{Mark, Span, SpanPool, Track};

@@ -1,13 +1,13 @@
-use Rattle.std.proofs.Common.{◌-◌}
-use Rattle.span_bisect.specs.Stack.{IsStack}
-use Rattle.span_bisect.proofs.StackLemmas.{IsNext}
+use Rattle.std.proofs.Common.{◌-◌, length, None}
+use Rattle.span_bisect.specs.Answer.{track_of}
+use Rattle.span_bisect.specs.Stack.{IsCell, IsStack}
 use Rattle.span_bisect.proofs.bisect.next_part.Given as goal
 
-abbrev pub invariant-loop-ends : goal.invariant-loop-ends
-invariant-loop-ends g l = record {
-  stack : IsStack (g.J.Judge.tick_count l.judge) l.to l.ends.items;
-  next : IsNext l.at l.to l.ends.items;
+abbrev pub invariant-loop-to : goal.invariant-loop-to
+invariant-loop-to g l = record {
+  stack : IsStack (track_of g.J.Judge l.judge) l.to l.stack.items;
+  cell : IsCell (track_of g.J.Judge l.judge) (length l.stack.items) l.at (record { to = l.to; last = None });
 }
 
-abbrev pub decreases-loop-ends : goal.decreases-loop-ends
-decreases-loop-ends g l = l.to - l.at
+abbrev pub decreases-loop-to : goal.decreases-loop-to
+decreases-loop-to g l = l.to - l.at
