@@ -75,6 +75,24 @@ def written(value):
     return str(floor(value * PARTS))
 
 
+# lines that cross 0, touch it at an end, or do not; with even ends, so that their middles are whole
+LINES = [
+    (2, -4, 3), (2, -4, 6), (-4, 2, 6), (6, 0, 5), (0, -6, 5), (-2, -2, 7), (2, 8, 7), (2, -2, 1), (ONE, -ONE, 864_000_000),
+    (2, -2 * ONE, 8_640_000_000), (-ONE, 1_000, 600_000), (1_000, -999_999_000, 1_000_000),
+]
+
+
+def first_parts(start, end, parts):
+    """The most of so many equal parts, from the start on, to the end of which a line stays above 0; and those of below 0."""
+    def most(a, b):
+        if a <= 0:
+            return 0
+        if b > 0:
+            return parts
+        return (a * parts - 1) // (a - b)
+    return [most(start, end), most(-start, -end)]
+
+
 def main():
     lines = ["//! Expected values, made by tools/numbers/slope_values.py.", ""]
     lines += ["/// From where to where a quantity and another go, in units of 2^-48.", f"pub const CASES: [[i64; 4]; {len(CASES)}] = ["]
@@ -85,6 +103,12 @@ def main():
     for case in CASES:
         for sixths in SIXTHS:
             lines += ["    [" + ", ".join(map(written, values(case, sixths))) + "],"]
+    lines += ["];", ""]
+    lines += ["/// From where to where a line goes, in units of 2^-48.", f"pub const LINES: [[i64; 2]; {len(LINES)}] = ["]
+    lines += ["    [" + ", ".join(map(str, line[:2])) + "]," for line in LINES]
+    lines += ["];", ""]
+    lines += ["/// Parts of the cell; and how many of them, from the start on and then from the end back, lie above 0 and below 0.", f"pub const COUNTS: [[u64; 5]; {len(LINES)}] = ["]
+    lines += ["    [" + ", ".join(map(str, [n] + first_parts(a, b, n) + first_parts(b, a, n))) + "]," for a, b, n in LINES]
     lines += ["];", ""]
     with open("crates/rows_lin/src/expected.rt", "w") as file:
         file.write("\n".join(lines))

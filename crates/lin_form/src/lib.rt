@@ -5,6 +5,7 @@ mod bands;
 mod laws;
 pub mod lin;
 pub mod parts;
+mod products;
 
 pub use laws::covered_lies_between;
 pub use lin::Lin;

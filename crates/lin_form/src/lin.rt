@@ -4,6 +4,7 @@ ghost use Rattle.std.specs.Prelude.{◌≡◌, false};
 use crate::bands::{
     bent, halved, is_off_zero, is_positive, is_slow, is_zero, square, swept, tolerance, turn_rest,
 };
+use crate::products::product_range;
 use fixed_iv::{Enc, Iv};
 
 /// A band about lines over the cell, within one interval: at the place `h` of the cell, from -1 to 1, the quantity is a
@@ -102,7 +103,7 @@ impl Enc for Lin {
     }
 
     fn times(self, other: Lin) -> Lin {
-        let range = self.range * other.range;
+        let range = product_range(self, other);
         if is_zero(self.slope) {
             return other.scaled(self.centre, range);
         }
@@ -138,10 +139,11 @@ impl Enc for Lin {
     }
 
     fn sincos(self) -> (Lin, Lin) {
-        let (sines, cosines) = trig_enc::sincos(self.range);
         if is_zero(self.slope) || !is_slow(self.slope) {
+            let (sines, cosines) = trig_enc::sincos(self.range);
             return (Lin::level(sines), Lin::level(cosines));
         }
+        let (sines, cosines) = trig_enc::sincos(Iv::WHOLE);
         let (sine, cosine) = trig_enc::sincos(self.centre);
         let rest = turn_rest(self.slope);
         (

@@ -7,13 +7,14 @@ ghost use Rattle.sgp4_model.specs.Time.{Somewhere};
 
 use crate::craft::Craft;
 use crate::lit_over::{ends_of, lit_over, shade_over};
+use crate::lit_survey::lit_survey;
 use crate::slopes::are_slopes_of_use;
 use crate::verdict::verdict_of;
 use elements::Window;
 use enc_plain::Plain;
 use fixed_iv::Iv;
 use lin_form::Lin;
-use span_bisect::{Judge, Verdict};
+use span_bisect::{Judge, Survey, Verdict};
 use sun_shade::Shade;
 
 /// Judges whether a satellite is in sunlight. Yes: before the Earth's centre or outside of its shadow. No: in the shadow.
@@ -67,5 +68,17 @@ impl<'a> Judge for LitJudge<'a> {
         }
         let side = lit_over::<Plain>(self.craft, &self.window, from, to);
         verdict_of(side, to - from == 1)
+    }
+
+    fn survey(&self, from: u64, to: u64) -> Survey {
+        if are_slopes_of_use(to - from) {
+            return lit_survey(self.craft, &self.window, from, to);
+        }
+        Survey {
+            first: self.judge(from, to),
+            left: to,
+            right: to,
+            last: Verdict::Unsure,
+        }
     }
 }

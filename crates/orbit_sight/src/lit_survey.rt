@@ -12,10 +12,10 @@ ghost use Rattle.sgp4_model.specs.Time.{Throughout};
 
 use crate::craft::Craft;
 use crate::lit_over::shade_over;
-use crate::survey::{Survey, survey_of};
+use crate::survey::survey_of;
 use elements::Window;
 use lin_form::{Lin, Parts};
-use span_bisect::Verdict;
+use span_bisect::{Survey, Verdict};
 use sun_shade::Shade;
 
 /// What is certain of a satellite's sunlight from both ends of the closed cell from one tick of a window to another.

@@ -9,6 +9,7 @@ ghost use Rattle.sgp4_model.specs.Time.{Somewhere};
 ghost use Rattle.station_view.specs.Judged.{IsNarrowSight};
 
 use crate::craft::Craft;
+use crate::pair_survey::pair_survey;
 use crate::side_over::side_over;
 use crate::slopes::are_slopes_of_use;
 use crate::verdict::verdict_of;
@@ -17,7 +18,7 @@ use elements::Window;
 use enc_plain::Plain;
 use fixed_iv::Iv;
 use lin_form::Lin;
-use span_bisect::{Judge, Verdict};
+use span_bisect::{Judge, Survey, Verdict};
 use station_view::{Sight, Station};
 
 /// Judges on which side of a station's mask a satellite is, where UT1 is `dut1_ms` milliseconds more than UTC. Yes: above.
@@ -89,6 +90,18 @@ impl<'a> Judge for PairJudge<'a> {
             return verdict_of(side, false);
         }
         verdict_over::<Plain>(craft, station, window, self.dut1_ms, from, to)
+    }
+
+    fn survey(&self, from: u64, to: u64) -> Survey {
+        if are_slopes_of_use(to - from) {
+            return pair_survey(self.craft, self.station, &self.window, self.dut1_ms, from, to);
+        }
+        Survey {
+            first: self.judge(from, to),
+            left: to,
+            right: to,
+            last: Verdict::Unsure,
+        }
     }
 }
 

@@ -8,10 +8,10 @@ ghost use Rattle.sgp4_model.specs.Time.{Throughout};
 
 use crate::craft::Craft;
 use crate::scene::scene_over;
-use crate::survey::{Survey, survey_of};
+use crate::survey::survey_of;
 use elements::Window;
 use lin_form::{Lin, Parts};
-use span_bisect::Verdict;
+use span_bisect::{Survey, Verdict};
 use station_view::{Station, lengths, mask_parts, reversed};
 
 /// On which side of the mask every solution of a satellite and a station is from both ends of the closed cell from one tick of a

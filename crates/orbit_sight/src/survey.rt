@@ -2,16 +2,7 @@
 ghost use Rattle.std.specs.Prelude.{◌≡◌, ◌+◌, ◌-◌, ◌<◌, ◌≤◌, ◌⊎◌};
 
 use lin_form::Parts;
-use span_bisect::Verdict;
-
-/// What certainly holds from both ends of a cell: `first` from its start to `left`, `last` from `right` to its end. `Yes` and
-/// `No` hold throughout; the others say nothing.
-pub(crate) struct Survey {
-    pub first: Verdict,
-    pub left: u64,
-    pub right: u64,
-    pub last: Verdict,
-}
+use span_bisect::{Survey, Verdict};
 
 /// The survey of a cell, by what is certain of its ticks from the start on, and of those from the end back.
 pub(crate) fn survey_of(from: u64, to: u64, first: Parts, last: Parts) -> Survey

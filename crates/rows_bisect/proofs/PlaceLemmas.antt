@@ -2,7 +2,7 @@
 use Rattle.std.proofs.Common.{ℕ, ◌<◌, pos, arith}
 use Rattle.std.proofs.lemmas.Int.{ints}
 use Rattle.std.specs.Prelude.{⊤}
-use Rattle.exact.specs.Rational.{ℚ, of_int}
+use Rattle.exact.specs.Rational.{of_int}
 use Rattle.exact.proofs.Integers.{of_int_le}
 use Rattle.exact.proofs.Order.{le_refl}
 use Rattle.sgp4_model.specs.Time.{Somewhere}

@@ -5,8 +5,7 @@ ghost use Rattle.span_bisect.specs.Answer.{IsOneMore};
 ghost use Rattle.span_pool.specs.Pool.{Holds, IsStill};
 ghost use Rattle.span_pool.specs.declared.track.Track.{Track};
 
-use crate::listed::Listed;
-use span_bisect::{Mark, Span, SpanPool, Track, TrackAnswer, cover};
+use span_bisect::{Judge, Mark, Span, SpanPool, Track, TrackAnswer, cover};
 use std::process::Abort;
 
 /// Why there are no spans.
@@ -42,13 +41,13 @@ pub fn undecided(from: u64, to: u64) -> Span {
 }
 
 /// The track of a judge that has spans, and how many verdicts it took.
-pub fn covered(
-    judge: &Listed,
+pub fn covered<J: Judge>(
+    judge: &J,
     resolution: u64,
     pool: &mut SpanPool,
     rt: &impl Abort,
 ) -> (Track, u64)
-    requires ticks { (1 ≤ judge.now.ticks) × (judge.now.ticks ≤ 8640000000) }
+    requires ticks { (1 ≤ J.tick_count judge.now) × (J.tick_count judge.now ≤ 8640000000) }
     requires resolution { (1 ≤ resolution) × (resolution ≤ 600000) }
     ensures more { IsOneMore pool.old pool.new result.0 }
     ensures others { (other : Track) → Holds pool.old other → IsStill pool.old pool.new other }
@@ -62,8 +61,13 @@ pub fn covered(
 }
 
 /// Why a judge has no spans.
-pub fn refused(judge: &Listed, resolution: u64, pool: &mut SpanPool, rt: &impl Abort) -> Refusal
-    requires ticks { (1 ≤ judge.now.ticks) × (judge.now.ticks ≤ 8640000000) }
+pub fn refused<J: Judge>(
+    judge: &J,
+    resolution: u64,
+    pool: &mut SpanPool,
+    rt: &impl Abort,
+) -> Refusal
+    requires ticks { (1 ≤ J.tick_count judge.now) × (J.tick_count judge.now ≤ 8640000000) }
     requires resolution { (1 ≤ resolution) × (resolution ≤ 600000) }
     ensures { pool.new ≡ pool.old }
 {

@@ -4,6 +4,8 @@
 #[cfg(test)]
 mod answers;
 #[cfg(test)]
+mod cuts;
+#[cfg(test)]
 mod listed;
 #[cfg(test)]
 mod lists;
@@ -11,3 +13,5 @@ mod lists;
 mod small;
 #[cfg(test)]
 mod spans;
+#[cfg(test)]
+mod surveyed;

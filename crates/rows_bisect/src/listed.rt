@@ -31,16 +31,31 @@ impl Listed {
         self.calls.get()
     }
 
-    /// The verdict of the stretch that a cell lies in.
-    fn listed(&self, from: u64, to: u64) -> Verdict {
+    /// Counts a call.
+    pub fn count(&self) {
+        self.calls.set(self.calls.get().saturating_add(1));
+    }
+
+    /// The stretch that a tick lies in: where it begins, where it ends, and its verdict.
+    pub fn stretch_at(&self, tick: u64) -> (u64, u64, Verdict) {
         let mut start = 0;
         for (end, verdict) in self.stretches {
-            if start <= from && to <= *end {
-                return *verdict;
+            if tick < *end {
+                return (start, *end, *verdict);
             }
             start = *end;
         }
-        Verdict::Unsure
+        (start, u64::MAX, Verdict::Unsure)
+    }
+
+    /// The verdict of the stretch that a cell lies in.
+    fn listed(&self, from: u64, to: u64) -> Verdict {
+        let (start, end, verdict) = self.stretch_at(from);
+        if start <= from && to <= end {
+            verdict
+        } else {
+            Verdict::Unsure
+        }
     }
 }
 
@@ -60,7 +75,7 @@ impl Judge for Listed {
     }
 
     fn judge(&self, from: u64, to: u64) -> Verdict {
-        self.calls.set(self.calls.get().saturating_add(1));
+        self.count();
         match self.listed(from, to) {
             Verdict::Sinks => if to - from == 1 {
                 Verdict::Sinks

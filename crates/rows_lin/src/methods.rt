@@ -1,5 +1,5 @@
 //! Each method of the slope enclosure, called through the interface.
-use crate::expected::{CASES, PLACES, VALUES};
+use crate::expected::{CASES, COUNTS, LINES, PLACES, VALUES};
 use fixed_iv::{Enc, Iv};
 use lin_form::Lin;
 
@@ -107,5 +107,20 @@ fn where_a_piece_has_no_bound_the_range_alone_is_left(rt: HostRuntime) {
         assert_eq!(rt; form.range.ends(), Iv::WHOLE.ends());
         assert_eq!(rt; form.centre.ends(), Iv::WHOLE.ends());
         assert_eq!(rt; form.slope.ends(), (0, 0));
+    }
+}
+
+#[test]
+fn parts_of_a_line_are_counted_from_both_ends(rt: HostRuntime) {
+    for ([from, to], [parts, above, below, last_above, last_below]) in LINES
+        .iter()
+        .zip(COUNTS.iter())
+    {
+        let line = Lin::line(point(*from), point(*to));
+        let first = line.sign_parts(*parts);
+        let last = line.reversed().sign_parts(*parts);
+        assert_eq!(rt; (first.yes, first.no), (*above, *below));
+        assert_eq!(rt; (last.yes, last.no), (*last_above, *last_below));
+        assert_eq!(rt; line.parts_above_0(*parts), *above);
     }
 }
