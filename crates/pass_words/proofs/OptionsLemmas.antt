@@ -7,7 +7,7 @@ use mathlib.Core.Path.{fun_ext}
 use Rattle.pass_words.specs.declared.fault.UsageFault.{UsageFault}
 use Rattle.pass_words.specs.declared.fault.UsageFault.TheVariants.{Twice}
 use Rattle.pass_words.specs.declared.key.Opt.{Opt}
-use Rattle.pass_words.specs.declared.key.Opt.TheVariants.{Lat, Lon, Start, End, Res, Catalogue, Stations, Number, At}
+use Rattle.pass_words.specs.declared.key.Opt.TheVariants.{Lat, Lon, Start, End, Res, Catalogue, Stations, Number, At, Count, Antennas}
 use Rattle.pass_words.specs.declared.part.Part.{Part}
 use Rattle.pass_words.specs.declared.role.Role.{Role}
 use Rattle.pass_words.specs.declared.role.Role.TheVariants.{Opens, Value, Stray}
@@ -32,6 +32,8 @@ same_key Catalogue Catalogue h = refl
 same_key Stations Stations h = refl
 same_key Number Number h = refl
 same_key At At h = refl
+same_key Count Count h = refl
+same_key Antennas Antennas h = refl
 same_key _ _ h = cc
 
 -- the place of a key in two lists of roles: in the first, or else in the second

@@ -1,7 +1,6 @@
 -- Angles in degrees, as words give them.
-use Rattle.std.specs.Prelude.{ℤ, Bool, ◌&&◌, Result, Ok, Err, if◌then◌else◌}
-use Rattle.exact.specs.Rational.{at_least_0, of_int, ◌-ℚ◌}
-use Rattle.decimals.specs.Decimal.{DecimalRecord, value}
+use Rattle.std.specs.Prelude.{ℤ, Result, Ok, Err, if◌then◌else◌}
+use Rattle.decimals.specs.Decimal.{DecimalRecord}
 use Rattle.elements.specs.Ranges.{is_from_to}
 use Rattle.decimals.specs.declared.fault.NumFault.{NumFault}
 use Rattle.pass_words.specs.declared.fault.UsageFault.{UsageFault}

@@ -2,7 +2,7 @@
 use Rattle.std.specs.Prelude.{Result, Ok, Err}
 use Rattle.pass_words.specs.declared.fault.UsageFault.{UsageFault}
 use Rattle.pass_words.specs.declared.found.Found.{Found}
-use Rattle.pass_words.specs.declared.key.Opt.TheVariants.{Lat, Lon, Start, End, Res, Catalogue, Stations, Number, At}
+use Rattle.pass_words.specs.declared.key.Opt.TheVariants.{Lat, Lon, Start, End, Res, Catalogue, Stations, Number, At, Count, Antennas}
 use Rattle.pass_words.specs.Places.{Places}
 
 -- the place of each key's value
@@ -16,6 +16,8 @@ places_in found Catalogue = found.catalogue
 places_in found Stations = found.stations
 places_in found Number = found.number
 places_in found At = found.at
+places_in found Count = found.count
+places_in found Antennas = found.antennas
 
 -- the places of an answer, or its fault
 abbrev pub found_places : Result Found UsageFault → Result Places UsageFault

@@ -2,7 +2,7 @@
 use Rattle.std.specs.Prelude.{ℕ, Bool, List, ◌++◌, codes, Option, find}
 use Rattle.std.specs.Str.{bytes_eq}
 use Rattle.pass_words.specs.declared.key.Opt.{Opt}
-use Rattle.pass_words.specs.declared.key.Opt.TheVariants.{Lat, Lon, Start, End, Res, Catalogue, Stations, Number, At}
+use Rattle.pass_words.specs.declared.key.Opt.TheVariants.{Lat, Lon, Start, End, Res, Catalogue, Stations, Number, At, Count, Antennas}
 
 -- the name of a key
 abbrev pub name_of : Opt → List ℕ
@@ -15,6 +15,8 @@ name_of Catalogue = codes "catalogue"
 name_of Stations = codes "stations"
 name_of Number = codes "number"
 name_of At = codes "at"
+name_of Count = codes "count"
+name_of Antennas = codes "antennas"
 
 -- the word names the key alone: two dashes and the key's name
 abbrev pub is_word_of : List ℕ → Opt → Bool

@@ -1,8 +1,12 @@
+pub mod Book
 pub mod Commands
+pub mod Counts
 pub mod Day
 pub mod Degrees
+pub mod Digits
 pub mod Faults
 pub mod Found
+pub mod Grid
 pub mod Instants
 pub mod Keys
 pub mod Locate

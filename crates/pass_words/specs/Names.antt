@@ -2,7 +2,7 @@
 use Rattle.std.specs.Prelude.{ℕ, ◌-◌, ◌<◌, ◌≤◌, List, [], length, slice_index_or, ⊤}
 use Rattle.pass_words.specs.declared.part.Part.{Part}
 use Rattle.pass_words.specs.declared.request.Request.{Request}
-use Rattle.pass_words.specs.declared.request.Request.TheVariants.{Day, Plan, Show, Locate}
+use Rattle.pass_words.specs.declared.request.Request.TheVariants.{Day, Plan, Show, Locate, Grid, Book}
 
 -- the part stands in a word behind the command, and is not empty
 pub record IsPartOf (words : List (List ℕ)) (part : Part) : Type 0 where
@@ -20,3 +20,5 @@ AreNamesIn words (Day lat lon window) = ⊤
 AreNamesIn words (Plan catalogue stations window) = AreFilesIn words catalogue stations
 AreNamesIn words (Show catalogue start) = IsPartOf words catalogue
 AreNamesIn words (Locate catalogue number at) = IsPartOf words catalogue
+AreNamesIn words (Grid count) = ⊤
+AreNamesIn words (Book catalogue stations window antennas) = AreFilesIn words catalogue stations

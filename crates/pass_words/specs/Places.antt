@@ -1,7 +1,7 @@
 -- Where the values of the keys stand.
 use Rattle.std.specs.Prelude.{Bool, true, false, Option, Some, None, if◌then◌else◌}
 use Rattle.pass_words.specs.declared.key.Opt.{Opt}
-use Rattle.pass_words.specs.declared.key.Opt.TheVariants.{Lat, Lon, Start, End, Res, Catalogue, Stations, Number, At}
+use Rattle.pass_words.specs.declared.key.Opt.TheVariants.{Lat, Lon, Start, End, Res, Catalogue, Stations, Number, At, Count, Antennas}
 use Rattle.pass_words.specs.declared.part.Part.{Part}
 
 -- for each key the place of its value, if there is one
@@ -23,6 +23,8 @@ is_same Catalogue Catalogue = true
 is_same Stations Stations = true
 is_same Number Number = true
 is_same At At = true
+is_same Count Count = true
+is_same Antennas Antennas = true
 is_same _ _ = false
 
 -- these places, and one more

@@ -1,20 +1,8 @@
 -- The resolution of a window, as a word gives it in seconds.
-use Rattle.std.specs.Prelude.{ℕ, ◌+◌, ◌-◌, ◌*◌, nat_le, ◌&&◌, List, [], ◌∷◌, Option, Some, None, Result, Ok, Err, if◌then◌else◌}
-use Rattle.std.specs.Char.{is_ascii_digit}
-use Rattle.std.specs.Str.{byte}
+use Rattle.std.specs.Prelude.{ℕ, ◌*◌, nat_le, ◌&&◌, List, Option, Some, None, Result, Ok, Err, if◌then◌else◌}
 use Rattle.pass_words.specs.declared.fault.WindowFault.{WindowFault}
 use Rattle.pass_words.specs.declared.fault.WindowFault.TheVariants as windows
-
--- the number of a digit
-abbrev pub digit : ℕ → ℕ
-digit c = c - byte "0"
-
--- the number that one or two digits write
-abbrev pub short_number : List ℕ → Option ℕ
-short_number (ones ∷ []) = if is_ascii_digit ones then Some (digit ones) else None
-short_number (tens ∷ ones ∷ []) =
-    if is_ascii_digit tens && is_ascii_digit ones then Some (10 * digit tens + digit ones) else None
-short_number _ = None
+use Rattle.pass_words.specs.Digits.{short_number}
 
 -- one to sixty seconds as ticks of 100 microseconds
 abbrev pub seconds_value : Option ℕ → Result ℕ WindowFault

@@ -8,7 +8,9 @@ use Rattle.pass_words.specs.declared.fault.WordFault.{WordFault}
 use Rattle.pass_words.specs.declared.key.Opt.{Opt}
 use Rattle.pass_words.specs.declared.key.Opt.TheVariants.{Start, End, Res}
 use Rattle.pass_words.specs.declared.part.Part.{Part}
+use Rattle.pass_words.specs.Counts.{count_read}
 use Rattle.pass_words.specs.Degrees.{degrees_read}
+use Rattle.pass_words.specs.Digits.{plain_number, short_number}
 use Rattle.pass_words.specs.Faults.{of_usage, of_window}
 use Rattle.pass_words.specs.Instants.{instant_read}
 use Rattle.pass_words.specs.Number.{number_value}
@@ -33,6 +35,14 @@ instant_given words places key = of_window (instant_read (utc_value (text_of wor
 -- the number that a key's value writes in one to nine digits
 abbrev pub number_given : List (List ℕ) → Places → Opt → Result ℕ WordFault
 number_given words places key = of_usage (number_value key (text_of words places key))
+
+-- the number from 1 to the most that a key's value writes in one or two digits
+abbrev pub short_count_given : List (List ℕ) → Places → Opt → ℕ → Result ℕ WordFault
+short_count_given words places key most = of_usage (count_read key most (short_number (text_of words places key)))
+
+-- the number from 1 to the most that a key's value writes in digits without a leading zero
+abbrev pub plain_count_given : List (List ℕ) → Places → Opt → ℕ → Result ℕ WordFault
+plain_count_given words places key most = of_usage (count_read key most (plain_number (text_of words places key)))
 
 -- where a key's value stands. That of a key without a value is never asked for.
 abbrev pub part_given : Places → Opt → Part

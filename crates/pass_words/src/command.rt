@@ -15,10 +15,21 @@ pub(crate) enum Command {
     Show,
     /// The position of one satellite at an instant.
     Locate,
+    /// A generated catalogue, planned and counted.
+    Grid,
+    /// The contacts of the stations, allotted to antennas.
+    Book,
 }
 
 /// All commands.
-const COMMANDS: [Command; 4] = [Command::Day, Command::Plan, Command::Show, Command::Locate];
+const COMMANDS: [Command; 6] = [
+    Command::Day,
+    Command::Plan,
+    Command::Show,
+    Command::Locate,
+    Command::Grid,
+    Command::Book,
+];
 
 impl Command {
     /// The word of the command.
@@ -30,6 +41,8 @@ impl Command {
             Command::Plan => b"plan",
             Command::Show => b"show",
             Command::Locate => b"locate",
+            Command::Grid => b"grid",
+            Command::Book => b"book",
         }
     }
 
@@ -48,6 +61,15 @@ impl Command {
             ],
             Command::Show => &[Opt::Catalogue, Opt::Start],
             Command::Locate => &[Opt::Catalogue, Opt::Number, Opt::At],
+            Command::Grid => &[Opt::Count],
+            Command::Book => &[
+                Opt::Catalogue,
+                Opt::Stations,
+                Opt::Start,
+                Opt::End,
+                Opt::Res,
+                Opt::Antennas,
+            ],
         }
     }
 }

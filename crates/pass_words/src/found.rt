@@ -18,6 +18,8 @@ pub(crate) struct Found {
     stations: Option<Part>,
     number: Option<Part>,
     at: Option<Part>,
+    count: Option<Part>,
+    antennas: Option<Part>,
 }
 
 impl Found {
@@ -35,6 +37,8 @@ impl Found {
             stations: None,
             number: None,
             at: None,
+            count: None,
+            antennas: None,
         }
     }
 
@@ -52,6 +56,8 @@ impl Found {
             Opt::Stations => self.stations,
             Opt::Number => self.number,
             Opt::At => self.at,
+            Opt::Count => self.count,
+            Opt::Antennas => self.antennas,
         }
     }
 
@@ -69,6 +75,8 @@ impl Found {
             Opt::Stations => self.stations = Some(part),
             Opt::Number => self.number = Some(part),
             Opt::At => self.at = Some(part),
+            Opt::Count => self.count = Some(part),
+            Opt::Antennas => self.antennas = Some(part),
         }
     }
 }

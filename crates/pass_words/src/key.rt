@@ -23,6 +23,10 @@ pub enum Opt {
     Number,
     /// The instant of a position.
     At,
+    /// How many satellites a generated catalogue has.
+    Count,
+    /// How many antennas each station has.
+    Antennas,
 }
 
 impl Opt {
@@ -40,6 +44,8 @@ impl Opt {
             Opt::Stations => "stations",
             Opt::Number => "number",
             Opt::At => "at",
+            Opt::Count => "count",
+            Opt::Antennas => "antennas",
         }
     }
 }

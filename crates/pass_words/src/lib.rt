@@ -2,7 +2,9 @@
 #![tactic(auto)]
 
 mod command;
+mod counts;
 mod degrees;
+mod digits;
 mod fault;
 mod found;
 mod instant;

@@ -29,4 +29,15 @@ pub enum Request {
         number: u32,
         at: Instant,
     },
+    /// The generated catalogue of so many satellites, from 1 to 1,000, planned and counted.
+    Grid {
+        count: u32,
+    },
+    /// The contacts of a plan, as of `Plan`, allotted to so many antennas of each station, from 1 to 64.
+    Book {
+        catalogue: Part,
+        stations: Part,
+        window: Window,
+        antennas: u32,
+    },
 }

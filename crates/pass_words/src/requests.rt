@@ -1,8 +1,10 @@
 //! The requests of the commands, of the values of their options.
 ghost use Rattle.std.specs.Prelude.{◌≡◌, IfOk};
+ghost use Rattle.pass_words.specs.Book.{book_request};
 ghost use Rattle.pass_words.specs.Commands.{request_of};
 ghost use Rattle.pass_words.specs.Day.{day_request};
 ghost use Rattle.pass_words.specs.Found.{places_in};
+ghost use Rattle.pass_words.specs.Grid.{grid_request};
 ghost use Rattle.pass_words.specs.Locate.{locate_request};
 ghost use Rattle.pass_words.specs.Plan.{plan_request};
 ghost use Rattle.pass_words.specs.Ranges.{IsInRange};
@@ -14,7 +16,10 @@ use crate::found::Found;
 use crate::key::Opt;
 use crate::passes::passes_given;
 use crate::request::Request;
-use crate::values::{degrees_given, instant_given, number_given, part_given, window_given};
+use crate::values::{
+    degrees_given, instant_given, number_given, part_given, plain_count_given, short_count_given,
+    window_given,
+};
 use elements::Text;
 
 /// The request of `day`.
@@ -66,6 +71,30 @@ fn locate_request(words: &[Text], found: &Found) -> Result<Request, WordFault>
     })
 }
 
+/// The request of `grid`.
+fn grid_request(words: &[Text], found: &Found) -> Result<Request, WordFault>
+    ensures value { result ≡ grid_request words.now (places_in found.now) }
+    ensures ranges { IfOk result IsInRange }
+{
+    let count = plain_count_given(words, found, Opt::Count, 1_000)?;
+    Ok(Request::Grid { count })
+}
+
+/// The request of `book`.
+fn book_request(words: &[Text], found: &Found) -> Result<Request, WordFault>
+    ensures value { result ≡ book_request words.now (places_in found.now) }
+    ensures ranges { IfOk result IsInRange }
+{
+    let antennas = short_count_given(words, found, Opt::Antennas, 64)?;
+    let passes = passes_given(words, found)?;
+    Ok(Request::Book {
+        catalogue: passes.catalogue,
+        stations: passes.stations,
+        window: passes.window,
+        antennas,
+    })
+}
+
 /// The request of a command, of the values of its options.
 pub(crate) fn request_of(
     command: Command,
@@ -80,5 +109,7 @@ pub(crate) fn request_of(
         Command::Plan => plan_request(words, found),
         Command::Show => show_request(words, found),
         Command::Locate => locate_request(words, found),
+        Command::Grid => grid_request(words, found),
+        Command::Book => book_request(words, found),
     }
 }

@@ -3,9 +3,13 @@ ghost use Rattle.std.specs.Prelude.{◌≡◌, ◌<◌, ◌^◌, IfOk};
 ghost use Rattle.decimals.specs.Decimal.{value};
 ghost use Rattle.elements.specs.Elements.{IsFromTo};
 ghost use Rattle.pass_words.specs.Found.{places_in};
+ghost use Rattle.pass_words.specs.Ranges.{IsCount};
 ghost use Rattle.pass_words.specs.Values.{degrees_given, instant_given, number_given, part_given, window_given};
+ghost use Rattle.pass_words.specs.Values.{plain_count_given, short_count_given};
 
+use crate::counts::count_read;
 use crate::degrees::degrees_read;
+use crate::digits::{plain_number, short_number};
 use crate::fault::WordFault;
 use crate::found::Found;
 use crate::instant::instant_read;
@@ -64,6 +68,38 @@ pub(crate) fn number_given(words: &[Text], found: &Found, key: Opt) -> Result<u3
 {
     match number(key, text_of(words, found, key)) {
         Ok(number) => Ok(number),
+        Err(fault) => Err(WordFault::Usage(fault)),
+    }
+}
+
+/// The number from 1 to the most that a key's value writes in one or two digits.
+pub(crate) fn short_count_given(
+    words: &[Text],
+    found: &Found,
+    key: Opt,
+    most: u32,
+) -> Result<u32, WordFault>
+    ensures value { result ≡ short_count_given words.now (places_in found.now) key most }
+    ensures range { IfOk result (IsCount most) }
+{
+    match count_read(key, most, short_number(text_of(words, found, key))) {
+        Ok(count) => Ok(count),
+        Err(fault) => Err(WordFault::Usage(fault)),
+    }
+}
+
+/// The number from 1 to the most that a key's value writes in digits without a leading zero.
+pub(crate) fn plain_count_given(
+    words: &[Text],
+    found: &Found,
+    key: Opt,
+    most: u32,
+) -> Result<u32, WordFault>
+    ensures value { result ≡ plain_count_given words.now (places_in found.now) key most }
+    ensures range { IfOk result (IsCount most) }
+{
+    match count_read(key, most, plain_number(text_of(words, found, key))) {
+        Ok(count) => Ok(count),
         Err(fault) => Err(WordFault::Usage(fault)),
     }
 }

@@ -4,7 +4,7 @@ use Rattle.elements.specs.Window.{WindowRecord}
 use Rattle.pass_words.specs.Names.{AreNamesIn}
 use Rattle.pass_words.specs.Ranges.{IsInRange}
 use Rattle.pass_words.specs.declared.request.Request.{Request}
-use Rattle.pass_words.specs.declared.request.Request.TheVariants.{Locate, Plan, Show}
+use Rattle.pass_words.specs.declared.request.Request.TheVariants.{Book, Grid, Locate, Plan, Show}
 
 -- a command and another word of two bytes
 abbrev pub small_words : List (List ℕ)
@@ -30,7 +30,13 @@ a_tick = record { start = pos 0; ticks = 1; resolution = 10_000 }
 abbrev pub of_files : ℕ → ℕ → Request
 of_files catalogue stations = Plan (record { word = catalogue; from = 0 }) (record { word = stations; from = 1 }) a_tick
 
--- a name stands in a word behind the command and is not empty; a number is below 1,000,000,000
+-- the request for contacts, with names of files in these words, that are allotted to so many antennas
+abbrev pub of_antennas : ℕ → ℕ → ℕ → Request
+of_antennas catalogue stations antennas =
+    Book (record { word = catalogue; from = 0 }) (record { word = stations; from = 1 }) a_tick antennas
+
+-- a name stands in a word behind the command and is not empty; a number is below 1,000,000,000; a count of satellites is
+-- from 1 to 1,000, and one of antennas from 1 to 64
 pub record SmallRequests : Type 0 where
   pub whole_word : AreNamesIn small_words (of_part 2 0)
   pub last_byte : AreNamesIn small_words (of_part 2 1)
@@ -44,3 +50,15 @@ pub record SmallRequests : Type 0 where
   pub planned : AreNamesIn small_words (of_files 2 2)
   pub sets_in_the_command : ¬ (AreNamesIn small_words (of_files 1 2))
   pub stations_in_the_command : ¬ (AreNamesIn small_words (of_files 2 1))
+  pub counted : AreNamesIn small_words (Grid 1)
+  pub least_count : IsInRange (Grid 1)
+  pub greatest_count : IsInRange (Grid 1_000)
+  pub no_satellite : ¬ (IsInRange (Grid 0))
+  pub too_many_satellites : ¬ (IsInRange (Grid 1_001))
+  pub booked : AreNamesIn small_words (of_antennas 2 2 1)
+  pub booked_in_the_command : ¬ (AreNamesIn small_words (of_antennas 1 2 1))
+  pub booked_over_the_command : ¬ (AreNamesIn small_words (of_antennas 2 1 1))
+  pub one_antenna : IsInRange (of_antennas 2 2 1)
+  pub most_antennas : IsInRange (of_antennas 2 2 64)
+  pub no_antenna : ¬ (IsInRange (of_antennas 2 2 0))
+  pub too_many_antennas : ¬ (IsInRange (of_antennas 2 2 65))

@@ -30,6 +30,15 @@ pub enum Asked<'a> {
         number: u32,
         at: i64,
     },
+    Grid {
+        count: u32,
+    },
+    Book {
+        catalogue: Name<'a>,
+        stations: Name<'a>,
+        window: Numbers,
+        antennas: u32,
+    },
 }
 
 /// The digits and the places of a decimal.
@@ -73,6 +82,18 @@ fn values_of(words: &[Text], request: Request) -> Asked<'_> {
             catalogue: name(words, catalogue),
             number,
             at: at.nanos(),
+        },
+        Request::Grid { count } => Asked::Grid { count },
+        Request::Book {
+            catalogue,
+            stations,
+            window,
+            antennas,
+        } => Asked::Book {
+            catalogue: name(words, catalogue),
+            stations: name(words, stations),
+            window: numbers(window),
+            antennas,
         },
     }
 }

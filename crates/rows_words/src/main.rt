@@ -5,6 +5,8 @@ ghost use Rattle.rows_words.specs.SmallRequests.{SmallRequests};
 
 mod asked;
 #[cfg(test)]
+mod blanks;
+#[cfg(test)]
 mod options;
 #[cfg(test)]
 mod parts;

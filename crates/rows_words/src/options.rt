@@ -48,6 +48,10 @@ fn a_word_that_is_not_utf8_is_told_by_its_number(rt: HostRuntime) -> Result<(), 
         &rt,
     )?;
     refuses(b"plan --stations \xff", UsageFault::Word { at: 3 }, &rt)?;
+    refuses(b"grid --count \xff", UsageFault::Word { at: 3 }, &rt)?;
+    refuses(b"grid --count=1\xff", UsageFault::Word { at: 2 }, &rt)?;
+    refuses(b"book --antennas \xff", UsageFault::Word { at: 3 }, &rt)?;
+    refuses(b"book --antennas=1\xff", UsageFault::Word { at: 2 }, &rt)?;
     Ok(())
 }
 

@@ -78,6 +78,30 @@ fn a_hundred_thousand_words_have_one_fault(rt: HostRuntime) -> Result<(), Fail> 
     Ok(())
 }
 
+/// `grid` with this value of its count has a fault of it.
+fn refuses_count(value: &[u8], rt: &(impl Abort + AllocGlobal)) -> Result<(), AllocError> {
+    let mut words = Vec::new(rt.alloc());
+    words.push(Text::copy(rt.alloc(), b"grid")?)?;
+    push_option(rt.alloc(), &mut words, b"--count=", value)?;
+    let fault = UsageFault::Value { key: Opt::Count };
+    expect(
+        words.as_slice(),
+        Err(WordFault::Usage(fault)),
+        "a megabyte",
+        rt,
+    );
+    Ok(())
+}
+
+#[test]
+fn a_count_of_a_megabyte_is_refused(rt: HostRuntime) -> Result<(), Fail> {
+    let mut long = vec![in rt.alloc(); b'1'; 1_000_000]?;
+    refuses_count(long.as_slice(), &rt)?;
+    long.push(b'x')?;
+    refuses_count(long.as_slice(), &rt)?;
+    Ok(())
+}
+
 #[test]
 fn words_of_a_megabyte_are_read_to_their_end(rt: HostRuntime) -> Result<(), Fail> {
     let alloc = rt.alloc();

@@ -1,6 +1,6 @@
 use Rattle.std.proofs.Common.{◌≡◌, ◌≤◌, ◌+◌, ◌^◌, drop}
 use Rattle.std.specs.Str.Parse.{digits_value, digits_value_after}
-use Rattle.pass_words.proofs.number.number_of.Given as goal
+use Rattle.pass_words.proofs.digits.number_of.Given as goal
 
 -- the digits read so far, and room for the others
 abbrev pub invariant-loop-digit : goal.invariant-loop-digit

@@ -1,7 +1,7 @@
 use Rattle.std.proofs.Common.{arith}
 use Rattle.std.proofs.lemmas.Grind.{common_steps}
 use Rattle.pass_words.proofs.NumberLemmas.{digit_at, digit_more, ten_pow_le}
-use Rattle.pass_words.proofs.number.number_of.Goals as goal
+use Rattle.pass_words.proofs.digits.number_of.Goals as goal
 
 pub overflow_mul-number : goal.overflow_mul-number
 overflow_mul-number c =
