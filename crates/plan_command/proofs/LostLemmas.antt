@@ -1,6 +1,5 @@
 -- No contact of a certified plan is lost.
 use Rattle.std.proofs.Common.{List, Ok, Err, IfOk, Result}
-use Rattle.std_alloc.specs.declared.alloc_error.AllocError.{AllocError}
 use Rattle.catalogue.specs.declared.entry.Entry.{Entry}
 use Rattle.elements.specs.Window.{WindowRecord}
 use Rattle.plan_command.specs.NoneLost.{PlansLoseNoContact}
@@ -18,7 +17,7 @@ plans_lose_no_contact slots entries setting plan are h entry station row is =
     long_contacts_are_visible setting entry.elements station slots certified.0 row.answer row.list
     (station_in_range setting.stations is.place station are is.station_is) certified.1
 
-pub planned_for : (satellites : List Entry) (places : StationsRecord) (window : WindowRecord) (result : Result PlanState AllocError) → AreStations places →
+pub planned_for : {E : Type 0} (satellites : List Entry) (places : StationsRecord) (window : WindowRecord) (result : Result PlanState E) → AreStations places →
     IfOk result (λ plan. IsPlanOf most_spans satellites (setting_of places window) (plan_record plan)) → IfOk result (IsPlanFor satellites places window)
 planned_for satellites places window (Ok plan) are h = record {
   certified = h;

@@ -34,7 +34,7 @@ apart {x} {y} h k = not_both (positive_gap h) (same_sign (ring (x ∷ y ∷ []) 
 later : (first : Span) (rest : List Span) (a b : ℚ) → MeetsVisible rest a b → MeetsVisible (first ∷ rest) a b
 later first rest a b m = record {
   span = m.span;
-  listed = (suc m.listed.0, after m.listed.0 (length rest) m.listed.1.0, m.listed.1.1);
+  listed = (suc m.listed.0, after m.listed.0 (length rest) m.listed.1, m.listed.2);
   visible = m.visible;
   place = m.place;
   after = m.after;
