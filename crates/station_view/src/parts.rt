@@ -11,11 +11,11 @@ ghost use Rattle.station_view.specs.Bounds.{HoldSides};
 ghost use Rattle.station_view.specs.Lengths.{LengthsRecord};
 ghost use Rattle.station_view.specs.Parts.{AboveFloor, BelowFloor, CoverLengths, EveryCovered, InSector, IsElsewhere};
 
-use crate::judge::may_hold;
+use crate::judge::{judge_lengths, may_hold};
 use crate::mask::Mask;
 use crate::sector::EnclosedSector;
 use crate::vector::Lengths;
-use fixed_iv::{Enc, Iv};
+use fixed_iv::{Enc, Iv, Side};
 use lin_form::{Lin, Parts};
 
 /// In how many of so many equal parts of the cell, from its start on, every direction at a range above 0 whose lengths are
@@ -25,7 +25,11 @@ pub fn mask_parts(lengths: &Lengths<Lin>, mask: &Mask, parts: u64) -> Parts
     ensures yes { (h : Place) → IsAmongFirst h result.yes parts → EveryCovered IsAbove lengths.now mask.now h }
     ensures no { (h : Place) → IsAmongFirst h result.no parts → EveryCovered IsBelow lengths.now mask.now h }
 {
-    all_parts(lengths, mask.sectors(), parts)
+    match judge_lengths(&ranges_of(lengths), mask) {
+        Side::Yes => Parts { yes: parts, no: 0 },
+        Side::No => Parts { yes: 0, no: parts },
+        Side::Unsure => all_parts(lengths, mask.sectors(), parts),
+    }
 }
 
 /// The lengths over the cell the other way round.
