@@ -6,6 +6,7 @@ use Rattle.decimals.specs.Normal.{normal}
 use Rattle.elements.specs.Elements.{ElementsRecord}
 use Rattle.elements.specs.Window.{WindowRecord}
 use Rattle.jiff_core.specs.Calendar.{days_from_civil}
+use Rattle.plan_core.specs.Certificate.{SettingRecord}
 use Rattle.station_file.specs.Masks.{flat_sectors, whole}
 use Rattle.station_file.specs.Rows.{StationsRecord}
 use Rattle.station_file.specs.declared.row.StationRow.{StationRow}
@@ -64,3 +65,7 @@ stations = record { rows = equator ∷ north ∷ []; dut1 = pos 0 }
 -- an hour from midnight, with a resolution of 10 seconds
 abbrev pub hour : WindowRecord
 hour = record { start = midnight; ticks = 36_000_000; resolution = 100_000 }
+
+-- what the rows are judged by
+abbrev pub setting : SettingRecord
+setting = record { stations = stations; window = hour }

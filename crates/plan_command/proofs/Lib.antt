@@ -1,6 +1,6 @@
-mod LawLemmas
-mod LostLemmas
+pub mod LawLemmas
+pub mod LostLemmas
 pub mod NumberedLemmas
-mod PartLemmas
+pub mod PartLemmas
 mod RowLemmas
-mod TableLemmas
+pub mod TableLemmas
