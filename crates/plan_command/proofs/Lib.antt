@@ -1,5 +1,5 @@
-mod LawLemmas
+pub mod LawLemmas
 pub mod NumberedLemmas
-mod PartLemmas
+pub mod PartLemmas
 mod RowLemmas
-mod TableLemmas
+pub mod TableLemmas

@@ -75,8 +75,8 @@ fn write_planned<K: Sink>(alloc: Global, plan: Plan, out: &mut K) -> Ending<Plan
     }
 }
 
-/// The plan of satellites over stations.
-fn planned(
+/// The plan of satellites over stations, with 1,048,576 slots for spans.
+pub fn planned(
     alloc: Global,
     satellites: Catalogue,
     places: Stations,
