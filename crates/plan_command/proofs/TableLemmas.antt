@@ -13,7 +13,7 @@ use Rattle.plan_command.proofs.PartLemmas.{all_at}
 use Rattle.plan_text.specs.Plan.{HasRows, IsPlan, IsRow, IsSatellite, IsWithin, PlanRecord, RowRecord, SatelliteRecord, StandingRecord, pairs_of, planned, refused}
 use Rattle.plan_text.specs.TableLines.{pass_line, pass_lines, table_block, table_blocks}
 use Rattle.plan_text.specs.Timetable.{contact_of, contacts_at, contacts_with, is_visible, list_of, timetable}
-use Rattle.plan_text.specs.declared.contact.Contact.{Contact}
+use Rattle.contact_alloc.specs.declared.bid.Contact.{Contact}
 use Rattle.plan_text.proofs.TimetableLemmas.{timetables_are_in_order}
 use Rattle.run_ends.proofs.PrintedLemmas.{AreLines}
 use Rattle.sgp4_model.specs.declared.span.Span.{Span}
@@ -53,7 +53,7 @@ pub no_tables : (plan : PlanRecord) → AreFirst plan [] 0
 no_tables plan = record { count = refl; each = λ j table e. absurd (none-some table e) }
 
 -- an element of a list with one more at its end
-at_pushed : {A : Type 0} (xs : List A) (x : A) (k : ℕ) (y : A) → slice_get (xs ++ x ∷ []) k ≡ Some y → (slice_get xs k ≡ Some y) ⊎ ((k ≡ length xs) × (x ≡ y))
+pub at_pushed : {A : Type 0} (xs : List A) (x : A) (k : ℕ) (y : A) → slice_get (xs ++ x ∷ []) k ≡ Some y → (slice_get xs k ≡ Some y) ⊎ ((k ≡ length xs) × (x ≡ y))
 at_pushed [] x zero y e = inr (refl, same_Some x y e)
 at_pushed [] x (suc k) y e = absurd (none-some y e)
 at_pushed (z ∷ zs) x zero y e = inl e

@@ -2,7 +2,7 @@
 use Rattle.std.specs.Prelude.{◌≡◌, ℕ, ◌≤◌, List, length, slice_get, Some}
 use Rattle.plan_text.specs.Plan.{PlanRecord}
 use Rattle.plan_text.specs.Timetable.{timetable}
-use Rattle.plan_text.specs.declared.contact.Contact.{Contact}
+use Rattle.contact_alloc.specs.declared.bid.Contact.{Contact}
 
 -- these are the timetables of the stations, one for each, in order
 pub record AreTables (plan : PlanRecord) (tables : List (List Contact)) : Type 0 where

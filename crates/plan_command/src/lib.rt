@@ -13,5 +13,5 @@ mod tables;
 
 pub use head::print_head;
 pub use plan_core::Plan;
-pub use run::run_plan;
+pub use run::{planned, run_plan};
 pub use tables::tables_of;

@@ -78,8 +78,8 @@ fn write_planned<K: Sink>(alloc: Global, plan: Plan, out: &mut K) -> Ending<Plan
     }
 }
 
-/// The plan of satellites over stations. Stations are in their ranges.
-fn planned(
+/// The plan of satellites over stations, with 1,048,576 slots for spans. Stations are in their ranges.
+pub fn planned(
     alloc: Global,
     satellites: Catalogue,
     places: Stations,

@@ -16,7 +16,7 @@ use Rattle.plan_core.specs.declared.sat_row.SatRow.{SatRow}
 use Rattle.plan_core.proofs.ListLemmas.{some_at, take_push}
 use Rattle.plan_text.specs.Plan.{RowRecord, SatelliteRecord, StandingRecord, pairs_of, planned, refused}
 use Rattle.plan_text.specs.Timetable.{comes_before, contact_of, contacts_at, contacts_with, in_order, inserted, is_visible, list_of}
-use Rattle.plan_text.specs.declared.contact.Contact.{Contact}
+use Rattle.contact_alloc.specs.declared.bid.Contact.{Contact}
 use Rattle.sgp4_model.specs.declared.span.Span.{Span}
 use Rattle.sgp4_shape.specs.declared.fault.SatFault.{SatFault}
 use Rattle.span_bisect.specs.Answer.{answer_spans}

@@ -4,7 +4,7 @@ use Rattle.std.specs.List.{filter}
 use Rattle.plan_text.specs.Plan.{SatelliteRecord, most_spans}
 use Rattle.plan_text.specs.Timetable.{contact_of, contacts_with, is_visible}
 use Rattle.sgp4_model.specs.declared.span.Span.{Span}
-use Rattle.plan_text.specs.declared.contact.Contact.{Contact}
+use Rattle.contact_alloc.specs.declared.bid.Contact.{Contact}
 
 -- a timetable has no more contacts than a plan has spans
 abbrev pub IsTable : List Contact → Type 0

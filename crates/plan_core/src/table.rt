@@ -21,7 +21,7 @@ pub struct Table {
 
 impl Model for Table {
     ghost use Rattle.std.specs.Prelude.{List};
-    ghost use Rattle.plan_text.specs.declared.contact.Contact.{Contact};
+    ghost use Rattle.contact_alloc.specs.declared.bid.Contact.{Contact};
     ghost use Rattle.plan_core.specs.Contacts.{IsTable};
 
     ghost Value = { List Contact };

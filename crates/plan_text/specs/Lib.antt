@@ -1,3 +1,4 @@
+pub mod BookLines
 pub mod GridLayout
 pub mod HeadLines
 pub mod Plan

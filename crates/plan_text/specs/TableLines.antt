@@ -1,7 +1,7 @@
 -- The lines of timetables.
 use Rattle.std.specs.Prelude.{ℕ, ◌+◌, ℤ, List, [], ◌∷◌, ◌++◌, length, codes, decimal}
 use Rattle.pass_text.specs.DayLayout.{tick_text}
-use Rattle.plan_text.specs.declared.contact.Contact.{Contact}
+use Rattle.contact_alloc.specs.declared.bid.Contact.{Contact}
 use Rattle.plan_text.specs.Plan.{PlanRecord}
 use Rattle.plan_text.specs.Timetable.{timetable}
 

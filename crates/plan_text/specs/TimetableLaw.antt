@@ -1,7 +1,7 @@
 -- What a timetable is: the visible spans of its station, each once, in order.
 use Rattle.std.specs.Prelude.{◌≡◌, ℕ, List}
 use Rattle.std.specs.List.Sorted.{IsPermutation, IsSortedBy}
-use Rattle.plan_text.specs.declared.contact.Contact.{Contact}
+use Rattle.contact_alloc.specs.declared.bid.Contact.{Contact}
 use Rattle.plan_text.specs.Plan.{PlanRecord}
 use Rattle.plan_text.specs.Timetable.{comes_before, contacts_at, timetable}
 

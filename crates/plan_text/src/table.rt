@@ -2,7 +2,7 @@
 ghost use Rattle.std.specs.Prelude.{◌≡◌, ◌≤◌};
 ghost use Rattle.plan_text.specs.TableLines.{pass_line, table_line};
 
-use crate::contact::Contact;
+use contact_alloc::Contact;
 use elements::Window;
 use pass_text::Line;
 

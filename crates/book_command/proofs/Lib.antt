@@ -1,0 +1,3 @@
+mod BidLemmas
+mod ForwardLemmas
+mod LineLemmas

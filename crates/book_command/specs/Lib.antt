@@ -1,0 +1,7 @@
+pub mod BookLayout
+pub mod BookedAt
+pub mod Bookings
+pub mod Made
+pub mod Printable
+pub mod Record
+pub mod State
