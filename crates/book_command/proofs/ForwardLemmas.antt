@@ -101,13 +101,14 @@ planned_at {window = window} {entries} {places} plan of_catalogue of_stations h 
   places = places;
   of_catalogue = of_catalogue;
   of_stations = of_stations;
-  certified = h;
-  resolved = clear_rows_are_resolved most_spans entries (setting_of places window) (plan_record plan) h;
+  certified = h.certified;
+  resolved = clear_rows_are_resolved most_spans entries (setting_of places window) (plan_record plan) h.certified;
+  none_lost = h.none_lost;
 }
 
 -- its contacts end after they begin
 pub planned_forward : (entries : List Entry) (places : StationsRecord) (window : WindowRecord) (plan : PlanState) → IsPlanFor entries places window plan → AreForward (plan_record plan)
-planned_forward entries places window plan h = are_forward most_spans entries (setting_of places window) (plan_record plan) h
+planned_forward entries places window plan h = are_forward most_spans entries (setting_of places window) (plan_record plan) h.certified
 
 -- such a plan with its bookings
 pub book_for : {entries : List Entry} {places : StationsRecord} {window : WindowRecord} {antennas : ℕ} {plan : PlanState} {book : BookState} →

@@ -13,11 +13,11 @@ use Rattle.plan_text.specs.declared.summary.Summary.{Summary}
 pub is_counted : (count : ℕ) (counted : CountedRecord) → IsPlanFor (satellites count) stations hour counted.plan → IsCountedPlan counted → IsCountedAt count counted
 is_counted count counted h e =
     let plan = plan_record counted.plan in
-    let many = (plans_list_each_satellite most_spans (satellites count) setting plan h).count ∙ how_many count in
-    let ticks = ticks_add_up most_spans (satellites count) setting plan counted.plan.cells h in
+    let many = (plans_list_each_satellite most_spans (satellites count) setting plan h.certified).count ∙ how_many count in
+    let ticks = ticks_add_up most_spans (satellites count) setting plan counted.plan.cells h.certified in
     record {
       certified = h;
-      resolved = clear_rows_are_resolved most_spans (satellites count) setting plan h;
+      resolved = clear_rows_are_resolved most_spans (satellites count) setting plan h.certified;
       summary = e;
       sats = ap (λ (s : Summary). s.sats) e ∙ many;
       ticks = rw e (omega (arith, ticks));

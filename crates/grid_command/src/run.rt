@@ -10,12 +10,9 @@ use crate::print::print_grid;
 use crate::satellites::generated;
 use elements::OutOfMemory;
 use outside_io::Sink;
-use plan_core::Planner;
+use plan_command::planned;
 use run_ends::{Ending, Refusal, ended, refuse};
 use std::alloc::Global;
-
-/// The most spans of a plan.
-const SLOTS: u32 = 1_048_576;
 
 /// Plans the first `count` generated satellites, 1 to 1,000, over the two stations in the hour, and writes the counts of the
 /// plan. All memory is taken before the first line is put.
@@ -42,6 +39,5 @@ fn counted(alloc: Global, count: u32) -> Result<Counted, OutOfMemory>
 {
     let satellites = generated(alloc, count)?;
     let places = two_stations(alloc)?;
-    let planner = Planner::make(alloc, satellites, places, hour(), SLOTS)?;
-    Ok(Counted::of(planner.plan()))
+    Ok(Counted::of(planned(alloc, satellites, places, hour())?))
 }
