@@ -130,6 +130,9 @@ class Reads(unittest.TestCase):
 
 
 WINDOW = "WINDOW 1999-12-31T23:30:00.0000Z 2000-01-01T00:30:00.0000Z 10"
+USE = "USE 2000-06-27T00:05:00.0000Z 2000-06-27T00:15:00.0000Z 90002 2"
+LAST_USE = "USE 2000-06-27T00:10:00.0000Z 2000-06-27T00:20:00.0000Z 90004 1"
+PRICE = "PRICE 2000-06-27T00:05:00.0000Z 2000-06-27T00:10:00.0000Z 2000000"
 CHANGES = [
     ("answers.txt", "PASSPLAN 1", "PASSPLAN 2"),
     ("answers.txt", WINDOW, WINDOW[:-2] + "61"),
@@ -151,6 +154,7 @@ CHANGES = [
     ("answers.txt", "SAT 3 ECCENTRIC \"", "SAT 0 ECCENTRIC \""),
     ("answers.txt", "SAT 3 ECCENTRIC \"", "SAT 03 ECCENTRIC \""),
     ("answers.txt", "SAT 999999999 OK x_1 $\\alpha$; a,b", "SAT 1000000000 OK x"),
+    ("answers.txt", "SAT 5 DRAG -", "SAT 5 DRAG  -"),
     ("answers.txt", "LIT 0 UNRESOLVED 1999-12-31T23:30:00.0000Z 1999-12-31T23:30:10.0001Z", "LIT 0 UNRESOLVED 1999-12-31T23:30:00.0000Z 1999-12-31T23:30:10.0000Z"),
     ("answers.txt", "LIT 0 UNRESOLVED 1999-12-31T23:30:00.0000Z 1999-12-31T23:30:10.0001Z", "LIT 0 UNRESOLVED 1999-12-31T23:29:59.9999Z 1999-12-31T23:30:10.0000Z"),
     ("answers.txt", "PAIR 0 3 FULL 1999-12-31T23:30:00.0000Z", "PAIR 0 3 FULL 2000-01-01T00:30:00.0000Z"),
@@ -176,12 +180,19 @@ CHANGES = [
     ("book.txt", "BOOK 2 0 0", "BOOK 2 0 1", 1),
     ("book.txt", "BOOK 3 TOOMANY 65537", "BOOK 3 TOOMANY 65536"),
     ("book.txt", "BOOK 3 TOOMANY 65537", "BOOK 3 65537 0"),
-    ("book.txt", "USE 2000-06-27T00:05:00.0000Z 2000-06-27T00:15:00.0000Z 90002 2", "USE 2000-06-27T00:05:00.0000Z 2000-06-27T00:15:00.0000Z 90002 1"),
-    ("book.txt", "USE 2000-06-27T00:05:00.0000Z 2000-06-27T00:15:00.0000Z 90002 2", "USE 2000-06-27T00:05:00.0000Z 2000-06-27T00:15:00.0000Z 90003 2"),
-    ("book.txt", "USE 2000-06-27T00:05:00.0000Z 2000-06-27T00:15:00.0000Z 90002 2", "USE 2000-06-27T00:05:00.0000Z 2000-06-27T00:15:00.0000Z 90002 0"),
-    ("book.txt", "USE 2000-06-27T00:05:00.0000Z 2000-06-27T00:15:00.0000Z 90002 2", "USE 2000-06-27T00:00:00.0000Z 2000-06-27T00:10:00.0000Z 90001 2"),
-    ("book.txt", "PRICE 2000-06-27T00:05:00.0000Z 2000-06-27T00:10:00.0000Z 10", "PRICE 2000-06-27T00:05:00.0000Z 2000-06-27T00:10:00.0000Z 0"),
-    ("book.txt", "PRICE 2000-06-27T00:10:00.0000Z 2000-06-27T00:15:00.0000Z 18446744073709551616", "PRICE 2000-06-27T00:09:59.9999Z 2000-06-27T00:15:00.0000Z 1"),
+    ("book.txt", USE, USE[:-1] + "1"),
+    ("book.txt", USE, USE[:-1] + "0"),
+    ("book.txt", USE, USE[:-1] + "65"),
+    ("book.txt", USE, USE.replace("90002", "90003")),
+    ("book.txt", USE, USE.replace("00:05:00.0000Z", "00:00:00.0000Z").replace("90002", "90000")),
+    ("book.txt", USE, USE.replace("00:05:00.0000Z", "00:15:00.0000Z")),
+    ("book.txt", USE, USE.replace("00:15:00.0000Z", "01:00:00.0001Z")),
+    ("book.txt", LAST_USE, LAST_USE.replace("90004", "90001")),
+    ("book.txt", PRICE, PRICE[:-7] + "0"),
+    ("book.txt", PRICE, PRICE[:-7] + "18446744073709551616"),
+    ("book.txt", PRICE, PRICE.replace("00:05:00.0000Z", "00:10:00.0000Z")),
+    ("book.txt", PRICE, PRICE.replace("00:10:00.0000Z", "00:10:00.0001Z"), 1),
+    ("book.txt", "BOOK 2 0 0", "BOOK 2 1 0", 1),
 ]
 
 
@@ -226,8 +237,13 @@ class Tables(unittest.TestCase):
 
     def test_bookings(self):
         rows = self.rows(tables.write_bookings, read("book.txt", lines_of("book.txt")))
-        self.assertEqual(rows[1], ["Pole", "90001", "2000-06-27T00:00:00.0000Z", "2000-06-27T00:10:00.0000Z", "1"])
+        self.assertEqual(rows[0], ["station", "antenna", "satellite", "from", "to"])
+        self.assertEqual(rows[2], ["Pole", "2", "90002", "2000-06-27T00:05:00.0000Z", "2000-06-27T00:15:00.0000Z"])
         self.assertEqual(len(rows), 4)
+
+    def test_stations_of_one_name_are_told_apart(self):
+        rows = self.rows(tables.write_unplanned, read("answers.txt", lines_of("answers.txt")))[1:]
+        self.assertEqual([row[0] for row in rows if row[0]], [" - (station 2)", " - (station 3)", " - (station 2)"])
 
 
 @unittest.skipUnless(icalendar, LACK % "icalendar")
@@ -296,8 +312,22 @@ class Pictures(unittest.TestCase):
         plan = read("answers.txt", lines_of("answers.txt"))
         page = pictures.draw_page(plan, list(pictures.plan_rows(plan, [], [])), plan.head.start, plan.head.end)
         said = "\n".join(text.get_text() for text in page.axes.texts)
-        for word in ("UNRESOLVED", "FULL", "DECAYS", *layout.FATES, "only grazes", "used up", "the model sinks"):
+        for word in ("UNRESOLVED", "FULL", "DECAYS", *layout.FATES, "only grazes", "used up", "come down"):
             self.assertIn(word, said)
+
+    def test_bookings_are_drawn(self):
+        import pictures
+
+        book = read("book.txt", lines_of("book.txt"))
+        page = pictures.draw_bookings(book, list(pictures.booking_rows(book, [])), book.head.start, book.head.end)
+        said = [text.get_text() for text in page.axes.texts]
+        self.assertEqual(said.count("90001") + said.count("90002") + said.count("90004"), 3)
+        self.assertEqual([text for text in said if text.startswith("TOOMANY: 65537") or text == "no contacts"], said[-3::2])
+        self.assertEqual([text for _, text in page.labels], ["antenna 1", "antenna 2"])
+        many = pictures.paged([[(1, antenna) for antenna in range(1, 65)], [(2, 0)]], 2)
+        self.assertEqual(([len(rows) for groups in many for rows in groups], len(many)), ([22, 22, 20, 1], 3))
+        with tempfile.TemporaryDirectory() as folder:
+            self.assertEqual((pictures.draw_book(book, folder, ("png",), []), os.listdir(folder)), (1, ["booking.png"]))
 
     def test_many_rows_and_days_take_more_pages(self):
         import pictures

@@ -4,7 +4,7 @@
 
 PLAN is a file with the printed text, or - for standard input. FOLDER is made where it is not there. Of a plan it has then
 passes.csv, unplanned.csv, passes.ics, the pages plan.png and plan.svg (or plan-001 and so on, listed in pages.csv), and
-edges.png and edges.svg with one pass near its edges; of a booking bookings.csv.
+edges.png and edges.svg with one pass near its edges; of a booking bookings.csv and the pages booking.png and booking.svg.
 
     --station, --number   draw these stations and satellites only
     --pass                draw the edges of this pass, counted from 1 in passes.csv
@@ -62,6 +62,18 @@ def write_all(plan, asked):
             print("view: no such pass, so no picture of its edges", file=sys.stderr)
 
 
+def write_booking(book, asked):
+    kinds = [name for name in asked.only if name in KINDS] or KINDS
+    if "passes" in asked.only or not set(asked.only) & set(WHAT):
+        import tables
+
+        tables.write_bookings(os.path.join(asked.folder, "bookings.csv"), book)
+    if "plan" in asked.only or not set(asked.only) & set(WHAT):
+        import pictures
+
+        pictures.draw_book(book, asked.folder, kinds, asked.station)
+
+
 def main():
     asked = words()
     try:
@@ -70,16 +82,11 @@ def main():
         print("view: %s: %s" % (asked.plan, fault), file=sys.stderr)
         return 1
     os.makedirs(asked.folder, exist_ok=True)
-    if isinstance(plan, layout.Book):
-        import tables
-
-        tables.write_bookings(os.path.join(asked.folder, "bookings.csv"), plan)
-        return 0
     if not all(1 <= index <= len(plan.head.stations) for index in asked.station):
         print("view: the plan has stations 1 to %d" % len(plan.head.stations), file=sys.stderr)
         return 1
     try:
-        write_all(plan, asked)
+        (write_booking if isinstance(plan, layout.Book) else write_all)(plan, asked)
     except ModuleNotFoundError as lack:
         print(LACKS % lack.name, file=sys.stderr)
         return 2
