@@ -190,17 +190,21 @@ class Lines:
 def read_head(lines, first):
     if lines.next(first) != first:
         lines.refuse("the first line is not %s" % first)
-    start, end, resolution = lines.fields("WINDOW", 3)
-    start, end = lines.tick(start), lines.tick(end)
-    if not 0 < end - start <= LONGEST:
-        lines.refuse("a window is longer than nothing and at most ten days long")
-    resolution, dut1 = lines.whole(resolution, 1, 60), 0
+    window, dut1 = read_window(lines), 0
     if lines.ahead() == "DUT1":
         text = lines.fields("DUT1", 1)[0]
         if not OFFSET.fullmatch(text) or not -900 <= int(text) <= 900:
             lines.refuse("%r is no offset from -900 to 900 but 0" % text)
         dut1 = int(text)
-    return Head(start, end, resolution, dut1, read_stations(lines), read_sats(lines))
+    return window._replace(dut1=dut1, stations=read_stations(lines), sats=read_sats(lines))
+
+
+def read_window(lines):
+    start, end, resolution = lines.fields("WINDOW", 3)
+    start, end = lines.tick(start), lines.tick(end)
+    if not 0 < end - start <= LONGEST:
+        lines.refuse("a window is longer than nothing and at most ten days long")
+    return Head(start, end, lines.whole(resolution, 1, 60), 0, [], [])
 
 
 def read_stations(lines):
@@ -222,11 +226,16 @@ def read_sats(lines):
             lines.refuse("number %d stands twice" % number)
         if fate != "OK" and fate not in FATES:
             lines.refuse("%r is no fate" % fate)
-        if name.startswith(" "):
-            lines.refuse("the name of a satellite does not begin with a blank")
         numbers.add(number)
-        sats.append(Sat(number, fate, lines.name(name)))
+        sats.append(Sat(number, fate, read_name(lines, name)))
     return sats
+
+
+def read_name(lines, name):
+    """The name of a satellite, which has no blank in front."""
+    if name.startswith(" "):
+        lines.refuse("the name of a satellite does not begin with a blank")
+    return lines.name(name)
 
 
 def read_row(lines, head, word, letters, number, index):

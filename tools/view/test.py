@@ -1,9 +1,9 @@
 """Tests of the tools that read and show plans.
 
-    /usr/bin/python3 tools/view/test.py
+    /usr/bin/python3 tools/view/test.py [TEXT..]
 
 The reader is tried on the samples as they stand, and on each sample with one line changed, left out or doubled: each such text
-is refused, at the line that is wrong. Tables, calendar and pictures are held against counts and sums taken from the sample's lines
+is refused, at the line that is wrong. Further texts that the program printed are read, made tables and calendars, and counted. Tables, calendar and pictures are held against counts and sums taken from the sample's lines
 by a few lines of this script. The calendar is read back by icalendar. Where icalendar or matplotlib is not installed, the tests
 that need it are skipped and say so.
 """
@@ -32,6 +32,7 @@ except ModuleNotFoundError:
 
 PLANS = ("deep.txt", "station.txt", "two.txt", "answers.txt")
 BOOKS = ("book.txt",)
+MORE = {"PASSPLAN": [], "PASSBOOK": []}  # texts that are given
 LACK = "%s is not installed (apt-get install python3-icalendar python3-matplotlib, then /usr/bin/python3)"
 
 
@@ -46,7 +47,7 @@ def lines_of(name):
 
 def read(name, lines):
     text = "".join(line + "\n" for line in lines).encode()
-    return layout.read_book(text) if name in BOOKS else layout.read_plan(text)
+    return layout.read_book(text) if name in BOOKS or name in MORE["PASSBOOK"] else layout.read_plan(text)
 
 
 def instant(text):
@@ -69,13 +70,13 @@ class Reads(unittest.TestCase):
         self.assertEqual(caught.exception.line, wanted, (name, str(caught.exception)))
 
     def test_samples_are_read(self):
-        for name in PLANS:
+        for name in (*PLANS, *MORE["PASSPLAN"]):
             plan, lines = read(name, lines_of(name)), lines_of(name)
             rows = list(plan.lit.values()) + list(plan.pair.values())
             self.assertEqual(sum(len(row.spans) for row in rows), sum(line[1] == " " for line in lines), name)
             self.assertEqual([len(table) for table in plan.tables], [int(line.split()[2]) for line in lines if line.startswith("TABLE ")])
             self.assertEqual(len(plan.head.sats), sum(line.startswith("SAT ") for line in lines))
-        for name in BOOKS:
+        for name in (*BOOKS, *MORE["PASSBOOK"]):
             book, lines = read(name, lines_of(name)), lines_of(name)
             self.assertEqual(sum(len(one.uses) for one in book.bookings), sum(line.startswith("USE ") for line in lines))
             self.assertEqual(sum(len(one.prices) for one in book.bookings), sum(line.startswith("PRICE ") for line in lines))
@@ -205,7 +206,7 @@ class Tables(unittest.TestCase):
                 return list(csv.reader(file))
 
     def test_a_pass_for_each_visible_span(self):
-        for name in PLANS:
+        for name in (*PLANS, *MORE["PASSPLAN"]):
             lines = lines_of(name)
             rows = self.rows(tables.write_passes, read(name, lines))
             self.assertEqual(rows[0], list(tables.PASSES))
@@ -240,6 +241,9 @@ class Tables(unittest.TestCase):
         self.assertEqual(rows[0], ["station", "antenna", "satellite", "from", "to"])
         self.assertEqual(rows[2], ["Pole", "2", "90002", "2000-06-27T00:05:00.0000Z", "2000-06-27T00:15:00.0000Z"])
         self.assertEqual(len(rows), 4)
+        for name in MORE["PASSBOOK"]:
+            found = [" ".join((row[3], row[4], row[2], row[1])) for row in self.rows(tables.write_bookings, read(name, lines_of(name)))[1:]]
+            self.assertEqual(found, [line[4:] for line in lines_of(name) if line.startswith("USE ")], name)
 
     def test_stations_of_one_name_are_told_apart(self):
         rows = self.rows(tables.write_unplanned, read("answers.txt", lines_of("answers.txt")))[1:]
@@ -256,7 +260,7 @@ class Events(unittest.TestCase):
         return text, icalendar.Calendar.from_ical(text)
 
     def test_an_event_for_each_visible_span(self):
-        for name in PLANS:
+        for name in (*PLANS, *MORE["PASSPLAN"]):
             text, calendar = self.calendar(name)
             found = [part for part in calendar.walk("VEVENT")]
             self.assertEqual(len(found), sum(line.startswith("V ") for line in lines_of(name)), name)
@@ -265,7 +269,7 @@ class Events(unittest.TestCase):
             self.assertEqual((str(calendar["version"]), "prodid" in calendar), ("2.0", True))
 
     def test_events_are_utc_inside_their_spans(self):
-        for name in PLANS:
+        for name in (*PLANS, *MORE["PASSPLAN"]):
             contacts = [line.split()[1:] for line in lines_of(name) if line.startswith("PASS ")]
             events = self.calendar(name)[1].walk("VEVENT")
             for (low, high, number), event in zip(contacts, events):
@@ -278,7 +282,7 @@ class Events(unittest.TestCase):
                 self.assertIn("Certainly visible from %s to %s." % (low, high), event["description"])
 
     def test_lines_are_those_of_the_standard(self):
-        for name in PLANS:
+        for name in (*PLANS, *MORE["PASSPLAN"]):
             lines = self.calendar(name)[0].split(b"\r\n")
             self.assertEqual(lines[-1], b"")
             self.assertTrue(all(len(line) <= 75 and b"\n" not in line for line in lines))
@@ -360,6 +364,8 @@ class Command(unittest.TestCase):
 
 
 def main():
+    for name in map(os.path.abspath, sys.argv[1:]):
+        MORE[lines_of(name)[0].partition(" ")[0]].append(name)
     for name, package in (("icalendar", icalendar), ("matplotlib", matplotlib)):
         if package is None:
             print("test.py: skipping: " + LACK % name)
