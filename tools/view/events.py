@@ -8,6 +8,7 @@ the same bytes.
 """
 import datetime
 import hashlib
+import os
 
 import icalendar
 
@@ -82,5 +83,11 @@ def calendar_of(plan):
 
 
 def write_events(path, plan):
+    """Whether there is a calendar: one without an event is none by the standard, so none is left there."""
+    if not any(plan.tables):
+        if os.path.exists(path):
+            os.remove(path)
+        return False
     with open(path, "wb") as file:
         file.write(calendar_of(plan).to_ical())
+    return True

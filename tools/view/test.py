@@ -281,6 +281,15 @@ class Events(unittest.TestCase):
                 self.assertTrue(event["summary"].startswith(number))
                 self.assertIn("Certainly visible from %s to %s." % (low, high), event["description"])
 
+    def test_no_calendar_without_an_event(self):
+        import events
+
+        with tempfile.TemporaryDirectory() as folder:
+            path = os.path.join(folder, "passes.ics")
+            self.assertTrue(events.write_events(path, read("station.txt", lines_of("station.txt"))))
+            self.assertFalse(events.write_events(path, read("deep.txt", lines_of("deep.txt"))))
+            self.assertEqual(os.listdir(folder), [])
+
     def test_lines_are_those_of_the_standard(self):
         for name in (*PLANS, *MORE["PASSPLAN"]):
             lines = self.calendar(name)[0].split(b"\r\n")

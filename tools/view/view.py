@@ -52,7 +52,8 @@ def write_all(plan, asked):
     if "events" in what:
         import events
 
-        events.write_events(os.path.join(asked.folder, "passes.ics"), plan)
+        if not events.write_events(os.path.join(asked.folder, "passes.ics"), plan):
+            print("view: no pass is certainly visible, so there is no calendar", file=sys.stderr)
     if "plan" in what or "edges" in what:
         import pictures
 
