@@ -29,14 +29,17 @@ import inputs as made  # noqa: E402
 
 SECONDS = 20
 EXTREME = [
-    b"0", b"-0", b"00", b"1", b"-1", b"9", b"99999", b"999999999", b"1000000000", b"4294967296", b"9223372036854775808", b"18446744073709551616",
-    b"1E17", b"1E18", b"1E-18", b"1E-19", b"1E1000", b".", b"-.", b"+", b"1.", b".5", b"999999999999999999", b"0.000000000000000001", b"90", b"-90.0000000001",
-    b"180", b"360", b"-180", b"359.9999999999", b"175", b"175.0001", b"0.2", b"0.2000001", b"225", b"6.4", b"6.3", b"16.3", b"17", b"1957-01-01T00:00:00",
-    b"2056-12-31T23:59:59.9999Z", b"2057-01-01T00:00:00Z", b"2000-06-27T00:00:60Z", b"2001-366T00:00:00", b"2000-02-29T00:00:00.00005Z", b"\xff", b"\xc3\xa4", b"A" * 64,
+    b"0", b"-0", b"00", b"1", b"-1", b"9", b"99999", b"999999999", b"1000000000", b"4294967296", b"9223372036854775808",
+    b"18446744073709551616", b"1E17", b"1E18", b"1E-18", b"1E-19", b"1E1000", b".", b"-.", b"+", b"1.", b".5", b"999999999999999999",
+    b"0.000000000000000001", b"90", b"-90.0000000001", b"180", b"360", b"-180", b"359.9999999999", b"175", b"175.0001", b"0.2",
+    b"0.2000001", b"225", b"6.4", b"6.3", b"16.3", b"17", b"1957-01-01T00:00:00", b"2056-12-31T23:59:59.9999Z", b"2057-01-01T00:00:00Z",
+    b"2000-06-27T00:00:60Z", b"2001-366T00:00:00", b"2000-02-29T00:00:00.00005Z", b"\xff", b"\xc3\xa4", b"A" * 64,
 ]
-TOML = [b"[[station]]\n", b"version = 2\n", b"dut1_ms = 900\n", b"dut1_ms = -901\n", b'mask = "5"\n', b"borders = []\n", b'masks = ["0"]\n', b"#", b'"""', b"'''", b"{", b"}"]
-TOML += [b"[", b"]", b"=", b".", b",", b"\\u0000", b"\\", b"inf", b"true", b"1979-05-27", b'name = ""\n', b'borders = ["0", "90", "180", "270"]\n']
-KVN = [b"CCSDS_OMM_VERS = 2.0\n", b"SEMI_MAJOR_AXIS = 7000\n", b"BTERM = 1\n", b"AGOM = 1\n", b"COMMENT x\n", b"EPHEMERIS_TYPE = 2\n", b" [deg]", b"MEAN_ELEMENT_THEORY = SGP/SGP4\n"]
+TOML = [b"[[station]]\n", b"version = 2\n", b"dut1_ms = 900\n", b"dut1_ms = -901\n", b'mask = "5"\n', b"borders = []\n", b'name = ""\n']
+TOML += [b'masks = ["0"]\n', b'borders = ["0", "90", "180", "270"]\n', b"inf", b"true", b"1979-05-27", b"\\u0000", b'"""', b"'''"]
+TOML += [b"[", b"]", b"{", b"}", b"=", b".", b",", b"#", b"\\"]
+KVN = [b"CCSDS_OMM_VERS = 2.0\n", b"MEAN_ELEMENT_THEORY = SGP/SGP4\n", b"SEMI_MAJOR_AXIS = 7000\n", b"BTERM = 1\n", b"AGOM = 1\n"]
+KVN += [b"COMMENT x\n", b"EPHEMERIS_TYPE = 2\n", b" [deg]"]
 COLUMNS = {1: [(3, 7), (19, 20), (21, 32), (54, 61), (63, 63)], 2: [(3, 7), (9, 16), (18, 25), (27, 33), (35, 42), (44, 51), (53, 63)]}
 KEYS = "lat lon start end res catalogue stations number at count antennas first second station".split()
 COMMANDS = {
@@ -122,7 +125,8 @@ class Case:
         self.values = {
             "lat": str(rng.randint(-90, 90)), "lon": str(rng.randint(-180, 360)), "start": start + "Z", "res": str(rng.randint(1, 60)),
             "end": start[:-5] + rng.choice(["%02d:00Z" % min(length, 59), "59:59.9999Z"]), "at": start + rng.choice(["", ".123456789Z"]),
-            "catalogue": "c", "stations": "s", "number": str(rng.choice([25544, 90_001, *(90_000 + k for k in self.satellites * 4)])), "count": str(rng.choice([1, 1, 2, 5])), "antennas": str(rng.randint(1, 4)),
+            "number": str(rng.choice([25544, 90_001, *(90_000 + k for k in self.satellites * 4)])), "catalogue": "c", "stations": "s",
+            "count": str(rng.choice([1, 1, 2, 5])), "antennas": str(rng.randint(1, 4)),
         }
         with open(os.path.join(TOP, "examples", "iss.tle"), "rb") as sets, open(os.path.join(TOP, "examples", "stations.toml"), "rb") as places:
             self.files = {"c": self.catalogue(sets.read()), "s": self.stations(places.read())}
@@ -132,7 +136,8 @@ class Case:
         rng = self.rng
         sets = b"".join(made.two_lines(k).encode() for k in self.satellites)
         near = MESSAGE.replace(b"2008-09-20T12:25:40.104192", b"2000-06-28T00:00:00")
-        text = rng.choice([sets, sets, sets, SETS, example + sets, b"0 NAME\r\n" + sets, MESSAGE, near, near + near.replace(b"25544", b"%d" % rng.randrange(10**9))])
+        two = near + near.replace(b"25544", b"%d" % rng.randrange(10**9))
+        text = rng.choice([sets, sets, sets, SETS, example + sets, b"0 NAME\r\n" + sets, MESSAGE, near, two])
         words = EXTREME + (KVN if text.startswith(b"CCSDS") else [SETS, b"0 NAME\n", b"1 ", b"2 ", b"\r\n"])
         for _ in range(rng.choice([0, 0, 1, 1, 2, 3, 8])):
             text = column_changed(rng, text) if rng.random() < 0.5 else changed(rng, text, words)
@@ -178,9 +183,10 @@ def keep(folder, case, kind):
     os.makedirs(folder, exist_ok=True)
     write_files(folder, case.files)
     with open(os.path.join(folder, "run.sh"), "wb") as file:
-        words = b" ".join(b"$'%s'" % b"".join(b"\\x%02x" % c for c in word) if not word.isalnum() else word for word in case.words)
-        file.write(b"# " + kind.replace("\n", " ").encode() + b"\n# words: " + shlex.join(word.decode("latin-1") for word in case.words).encode().replace(b"\n", b" "))
-        file.write(b'\ncd "$(dirname "$0")" && exec "$1" ' + words + b"\n")
+        quoted = b" ".join(word if word.isalnum() else b"$'%s'" % b"".join(b"\\x%02x" % c for c in word) for word in case.words)
+        shown = shlex.join(word.decode("latin-1") for word in case.words)
+        file.write(b"# %s\n# words: %s\n" % tuple(text.replace("\n", " ").encode() for text in (kind, shown)))
+        file.write(b'program=$(realpath "$1") && cd "$(dirname "$0")" && exec "$program" ' + quoted + b"\n")
 
 
 def words():

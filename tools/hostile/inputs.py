@@ -119,7 +119,7 @@ def outputs(tally):
 
 
 def through_pipe(tally, text, pieces):
-    """A plan whose catalogue is a named pipe into which the text goes in pieces."""
+    """How a plan ends whose catalogue is a named pipe into which the text goes in pieces."""
     path = os.path.join(tally.folder, "pipe")
     os.mkfifo(path)
 
@@ -140,6 +140,10 @@ def through_pipe(tally, text, pieces):
     return ended
 
 
+PROC = ["/proc/self/" + name for name in "auxv cmdline exe fd io limits maps mounts pagemap smaps stat status syscall wchan".split()]
+PROC += ["/proc/" + name for name in "cpuinfo filesystems interrupts loadavg meminfo stat uptime version".split()]
+
+
 def files(tally):
     for pieces in (len(SETS), 1, 69, 70, 4096):
         tally.answers("a pipe in pieces of %d" % pieces, through_pipe(tally, SETS, pieces), "PASSPLAN")
@@ -151,14 +155,12 @@ def files(tally):
         own.bind(os.path.join(tally.folder, "socket"))
     os.symlink("ring", os.path.join(tally.folder, "ring"))
     os.symlink("c", os.path.join(tally.folder, "link"))
-    reads = {"socket": "error read", "ring": "error read", "link": "PASSSHOW", ".": "error read", "/": "error read", "c/": "error read", "x" * 5000: "error read"}
-    reads.update({"/dev/null": "error catalogue empty", "/dev/zero": "error toolong", "/dev/full": "error toolong", "/dev/urandom": "error toolong"})
-    reads.update({"/proc/self/mem": "error read", "/dev/stdin": "error catalogue empty"})
+    reads = dict.fromkeys(("socket", "ring", ".", "/", "c/", "x" * 5000, "/proc/self/mem"), "error read")
+    reads.update(dict.fromkeys(("/dev/zero", "/dev/full", "/dev/urandom"), "error toolong"))
+    reads.update({"/dev/null": "error catalogue empty", "/dev/stdin": "error catalogue empty", "link": "PASSSHOW"})
     for name, wanted in reads.items():
         tally.answers("catalogue %r" % name[:20], tally.run(["show", "--catalogue=" + name, START]), wanted)
-    own = [name for name in sorted(os.listdir("/proc/self")) if os.path.isfile("/proc/self/" + name)]
-    shared = [name for name in sorted(os.listdir("/proc")) if os.path.isfile("/proc/" + name) and name not in ("kmsg", "kcore", "kpagecount", "kpageflags", "kpagecgroup")]
-    for name in ["/proc/self/" + name for name in own] + ["/proc/" + name for name in shared]:
+    for name in PROC:
         tally.answers("catalogue " + name, tally.run(["show", "--catalogue=" + name, START]))
         tally.answers("stations " + name, tally.run(["plan", "--catalogue=c", "--stations=" + name] + HOUR))
 
