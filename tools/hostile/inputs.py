@@ -186,6 +186,7 @@ def names(tally):
             tally.answers("the name %r in a word" % name, tally.run(["show", START, "--catalogue", name]), *dashed)
             if is_file:
                 os.remove(os.path.join(os.fsencode(tally.folder), name))
+                write_files(tally.folder)  # one of which may have had this name
         byte = bytes([byte])
         tally.answers("the command %r" % byte, tally.run([byte]), "error usage command")
         tally.answers("the option %r" % byte, tally.run(["show", START, b"--" + byte + b"=c"]), "error usage word")

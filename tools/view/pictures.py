@@ -279,13 +279,22 @@ def draw_edges(plan, folder, kinds, number):
     title = "The edges of a pass of %d%s over %s\ncertainly visible from %s to %s UTC"
     title %= (one.sat.number, name, one.station, to_text(one.start)[:-1], to_text(one.end)[:-1])
     figure.text(0.012, 0.96, title, va="top", fontsize=10, linespacing=1.5)
-    draw_edge(both[0], spans, plan.head, one.first, one.start, "It rises", "with the window's start it is visible already")
-    draw_edge(both[1], spans, plan.head, one.end, one.last, "It sets", "at the window's end it is visible still")
+    rises = edge_words(one.first, one.start, "It rises", plan.head.start, "before the window begins")
+    sets = edge_words(one.end, one.last, "It sets", plan.head.end, "after the window ends")
+    draw_edge(both[0], spans, plan.head, one.first, one.start, rises)
+    draw_edge(both[1], spans, plan.head, one.end, one.last, sets)
     saved(figure, folder, "edges", kinds)
     return True
 
 
-def draw_edge(axes, spans, head, low, high, title, otherwise):
+def edge_words(low, high, title, border, otherwise):
+    """What is said of an edge: how long it is undecided, or why it is not."""
+    if low < high:
+        return "%s: undecided for %d.%d ms" % (title, (high - low) // 10, (high - low) % 10)
+    return "%s %s" % (title, otherwise if low == border else "without an undecided tick")
+
+
+def draw_edge(axes, spans, head, low, high, title):
     """The spans around an undecided one, in milliseconds or seconds from its start."""
     length = max(high - low, 1)
     start, end = low - 2 * length, high + 2 * length
@@ -306,8 +315,7 @@ def draw_edge(axes, spans, head, low, high, title, otherwise):
     for first, last, words in ((start, head.start, "before the window"), (head.end, end, "after the window")):
         if 20 * (last - first) > end - start:
             axes.text(((first + last) / 2 - low) / unit, 0.5, words, ha="center", va="center", style="italic")
-    said = "%s: undecided for %d.%d ms" % (title, (high - low) // 10, (high - low) % 10) if low < high else "%s: %s" % (title, otherwise)
-    axes.set_title(said, fontsize=9, loc="left")
+    axes.set_title(title, fontsize=9, loc="left")
     axes.set_xlim((start - low) / unit, (end - low) / unit)
     axes.set_ylim(0, 1)
     axes.set_yticks([])

@@ -328,6 +328,12 @@ class Pictures(unittest.TestCase):
         for word in ("UNRESOLVED", "FULL", "DECAYS", *layout.FATES, "only grazes", "used up", "come down"):
             self.assertIn(word, said)
 
+    def test_edges_are_said_in_words(self):
+        import pictures
+
+        said = [pictures.edge_words(*row, 0, "before it begins") for row in ((3, 12, "It rises"), (0, 0, "It rises"), (5, 5, "It rises"))]
+        self.assertEqual(said, ["It rises: undecided for 0.9 ms", "It rises before it begins", "It rises without an undecided tick"])
+
     def test_bookings_are_drawn(self):
         import pictures
 
