@@ -6,7 +6,7 @@ Each case is made from the seed and its number alone; `--case` runs one alone. I
 of stations (examples/, tools/speed/inputs.py, runs.py) and words; most of them are then mutated: bytes, slices and lines are cut,
 doubled, swapped, changed, digits exchanged, columns and values replaced by extreme ones. Check digits are mended after most changes,
 so that deeper code is reached. What is printed is read by answers.py; a status that does not go with it, a signal, anything on
-standard error, or 20 seconds are failures. A failing case is kept: FOLDER/<seed>-<case> has its files and a script `run.sh`.
+standard error, `error memory`, or 20 seconds are failures. A failing case is kept: FOLDER/<seed>-<case> has its files and a script `run.sh`.
 
 It prints the seed, each failure, how many cases ended with which answer, and ends with status 1 where one failed. It needs nothing but
 Python.
@@ -174,9 +174,10 @@ def outcome(program, case, folder):
     if ended.err:
         return "wrong: something on standard error", ended
     try:
-        return read_answer(ended.out, ended.status), ended
+        kind = read_answer(ended.out, ended.status)
     except Refused as fault:
         return "wrong: %s" % fault, ended
+    return "wrong: error memory, where there is enough" if kind == "error memory" else kind, ended
 
 
 def keep(folder, case, kind):
