@@ -5,7 +5,9 @@
 #
 #     tools/program/check.sh [PROGRAM]
 #
-# It prints each row that fails and a count, and ends with status 1 where a row fails.
+# It prints each row that fails and a count, and ends with status 1 where a row fails. All that was printed is then read by the
+# strict readers of tools/hostile/answers.py, and the plans and bookings are shown by tools/view, where there is a Python; what
+# needs a package that is missing is skipped, and says so.
 top=$(cd "$(dirname "${BASH_SOURCE[0]}")/../.." && pwd) || exit 2
 # (without words the script at the top builds the program, where that is still to be done, and ends with status 2)
 [ $# -gt 0 ] || "$top/passplan" >/dev/null
@@ -19,7 +21,7 @@ line1='1 00005U 58002B   00179.78495062  .00000023  00000-0  28098-4 0  4753'
 line2='2 00005  34.2682 348.7242 1859667 331.7664  19.3264 10.82419157413667'
 other1='1 25544U 98067A   08264.51782528 -.00002182  00000-0 -11606-4 0  2927'
 other2='2 25544  51.6416 247.4627 0006703 130.5360 325.0288 15.72125391563537'
-mkdir sub 'with blank'
+mkdir sub 'with blank' printed
 printf '%s\r\n' "$line1" "$line2" >a
 printf '%s\n' 'ISS (ZARYA)' "$other1" "$other2" >sub/b
 cp sub/b 'with blank/b=c'
@@ -37,6 +39,10 @@ fails() {
   failed=$((failed + 1))
   printf 'row %s failed\n  wanted: %q\n  found:  %q\n' "$1" "$2" "$3"
 }
+# keep STATUS   keeps what was printed with this status for the readers
+keep() {
+  cp out "printed/$rows.$1"
+}
 # row STATUS OUTPUT WORDS..   the program of these words ends so, prints this and nothing on standard error
 row() {
   local wanted="$1 $2" found
@@ -45,6 +51,7 @@ row() {
   "$program" "$@" >out 2>err
   found="$? $(cat out; printf .)"
   found=${found%.}
+  keep "${found%% *}"
   [ "$found" = "$wanted" ] || fails "$rows ($*)" "$wanted" "$found"
   [ ! -s err ] || fails "$rows ($*): standard error" '' "$(cat err)"
 }
@@ -57,6 +64,7 @@ heads() {
   "$program" "$@" >out 2>err
   found="$? $(head -n "$count" out; printf .)"
   found=${found%.}
+  keep "${found%% *}"
   [ "$found" = "$wanted" ] || fails "$rows ($*)" "$wanted" "$found"
 }
 # holds STATUS PATTERN WORDS..   the program ends so, and its output matches the pattern, an extended regular expression in
@@ -68,6 +76,7 @@ holds() {
   "$program" "$@" >out 2>err
   found="$? $(cat out; printf .)"
   found=${found%.}
+  keep "${found%% *}"
   [[ $found =~ ^${wanted%% *}\ .*(${wanted#* }) ]] || fails "$rows ($*)" "$wanted" "$found"
   [ ! -s err ] || fails "$rows ($*): standard error" '' "$(cat err)"
 }
@@ -224,6 +233,20 @@ cut 8 show --catalogue=a --start=2000-06-28T00:00:00Z
 cut 8 locate --catalogue=a --number=6 --at=$at
 cut 2 --help
 cut 6 show --catalogue=absent --start=2000-06-28T00:00:00Z
+
+# shown   what was printed is read strictly, and plans and bookings are shown; status 1 where a test fails
+shown() {
+  local python texts
+  [ -n "$(type -P python3)" ] || { echo "check.sh: skipping the readers: there is no python3"; return 0; }
+  for python in python3 /usr/bin/python3; do
+    ! "$python" -c 'import icalendar, matplotlib' 2>/dev/null || break
+  done
+  [ -x "$(type -P "$python")" ] || python=python3
+  mapfile -t texts < <(grep -l -a -E -m 1 '^PASS(PLAN|BOOK) 1$' printed/*)
+  "$python" "$top/tools/hostile/test.py" && "$python" "$top/tools/hostile/answers.py" printed &&
+    "$python" "$top/tools/view/test.py" "${texts[@]}"
+}
+shown || failed=$((failed + 1))
 
 echo "check.sh: $rows rows, $failed failed"
 [ "$failed" -eq 0 ]

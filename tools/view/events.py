@@ -8,6 +8,7 @@ the same bytes.
 """
 import datetime
 import hashlib
+import os
 
 import icalendar
 
@@ -27,10 +28,9 @@ def length_text(ticks):
     return "%d.%04d s" % divmod(ticks, TICK)
 
 
-def identifier(one, doubled):
-    """Of the number, the station and the span; stations whose printed names are equal go by their index too."""
-    station = one.station + ("#%d" % one.index if one.station in doubled else "")
-    key = hashlib.sha256(station.encode("ascii")).hexdigest()[:16]
+def identifier(one):
+    """Of the number, the station and the span."""
+    key = hashlib.sha256(one.station.encode("ascii")).hexdigest()[:16]
     return "%d-%s-%d-%d@passplan" % (one.sat.number, key, one.start, one.end)
 
 
@@ -53,11 +53,11 @@ def describe(one, inside):
     return "\n".join(lines)
 
 
-def event_of(one, stamp, doubled):
+def event_of(one, stamp):
     first, last, inside = whole_seconds(one)
     event = icalendar.Event()
     called = "" if one.sat.name == "-" else " " + one.sat.name
-    event.add("uid", identifier(one, doubled))
+    event.add("uid", identifier(one))
     event.add("dtstamp", stamp)
     for name, at in (("dtstart", first), ("dtend", last)):
         event.add(name, second(at))
@@ -69,8 +69,6 @@ def event_of(one, stamp, doubled):
 
 
 def calendar_of(plan):
-    names = plan.head.stations
-    doubled = {name for name in names if names.count(name) > 1}
     stamp = second(plan.head.start // TICK)
     calendar = icalendar.Calendar()
     calendar.add("prodid", "-//passplan//tools view//EN")
@@ -80,10 +78,16 @@ def calendar_of(plan):
     if missing:
         calendar.add("x-wr-caldesc", "Not in this calendar:\n" + "\n".join(missing))
     for one in passes(plan):
-        calendar.add_component(event_of(one, stamp, doubled))
+        calendar.add_component(event_of(one, stamp))
     return calendar
 
 
 def write_events(path, plan):
+    """Whether there is a calendar: one without an event is none by the standard, so none is left there."""
+    if not any(plan.tables):
+        if os.path.exists(path):
+            os.remove(path)
+        return False
     with open(path, "wb") as file:
         file.write(calendar_of(plan).to_ical())
+    return True

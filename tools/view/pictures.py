@@ -1,4 +1,5 @@
-"""Draws a plan with matplotlib: a row for each satellite at each station, and one pass near its edges.
+"""Draws a plan with matplotlib: a row for each satellite at each station, and one pass near its edges; of a booking, a row for
+each antenna of each station.
 
 What is visible is a full bar, what is hidden a thin line, what is undecided a hatched bar or, where it is narrower than a point,
 a black stroke; sunlit is a pale strip below, dark a dotted line. So shapes tell them apart, and the colours are those of Okabe and Ito,
@@ -18,7 +19,7 @@ from matplotlib.patches import Patch  # noqa: E402
 from matplotlib.lines import Line2D  # noqa: E402
 from matplotlib.ticker import MaxNLocator  # noqa: E402
 
-from plan import DAY, TICK, to_text  # noqa: E402
+from plan import TICK, Span, to_text  # noqa: E402
 from tables import REFUSED, passes, row_words  # noqa: E402
 
 matplotlib.rcParams.update({"text.parse_math": False, "svg.hashsalt": "passplan", "hatch.linewidth": 0.6, "font.size": 8})
@@ -28,6 +29,15 @@ SLICE = 24 * 3600 * TICK
 WORDS = {"V": "visible", "H": "hidden", "U": "undecided"}
 WIDTH, LEFT, RIGHT = 13.0, 2.1, 0.5
 ROW = 0.23
+SHOWN = [
+    Patch(facecolor=VISIBLE, edgecolor="black", linewidth=0.5, label="certainly visible"),
+    Line2D([], [], color=HIDDEN, linewidth=1.2, label="certainly hidden"),
+    Patch(facecolor="white", edgecolor=UNDECIDED, hatch="/////", label="undecided"),
+    Line2D([], [], color="black", marker="|", markersize=9, linewidth=0, label="undecided, narrower than a point"),
+    Patch(facecolor=SUNLIT, edgecolor="black", linewidth=0.4, label="certainly sunlit (strip below)"),
+    Line2D([], [], color=DARK, linewidth=0.9, linestyle=":", label="certainly dark (strip below)"),
+]
+BOOKED = [Patch(facecolor=VISIBLE, edgecolor="black", linewidth=0.5, label="certainly visible and booked, with the satellite's number")]
 STEPS = [1, 2, 5, 10, 20, 50, 100, 200, 500, 1000, 2000, 5000] + [
     TICK * s for s in (1, 2, 5, 10, 15, 30, 60, 120, 300, 600, 900, 1800, 3600, 7200, 10_800, 14_400, 21_600, 43_200)
 ]
@@ -44,18 +54,18 @@ def plan_rows(plan, stations, numbers):
         yield [(index, sat) for sat in sats]
 
 
-def paged(groups):
-    """Pages of rows. A station begins a page where it would not fit on the one before; a row of words takes a line of its own."""
-    pages, room = [], 0
+def paged(groups, lines=1):
+    """Pages of rows of so many lines. A station begins a page where it would not fit on the one before; its name takes a line."""
+    pages, room, most = [], 0, ROWS // lines
     for rows in groups:
-        length = -(-len(rows) // max(-(-len(rows) // ROWS), 1)) or 1  # as even as they can be
+        length = -(-len(rows) // max(-(-len(rows) // most), 1)) or 1  # as even as they can be
         for at in range(0, len(rows), length):
             part = rows[at : at + length]
-            if room < len(part) + 1:
+            if room < lines * len(part) + 1:
                 pages.append([])
                 room = ROWS + 1
             pages[-1].append(part)
-            room -= len(part) + 1
+            room -= lines * len(part) + 1
     return pages
 
 
@@ -69,7 +79,7 @@ def slices(head):
 class Page:
     """The axes of a page over a slice of time, in seconds from its start."""
 
-    def __init__(self, head, rows, start, end):
+    def __init__(self, head, rows, start, end, title="Plan", which=""):
         self.start, self.end, self.wide = start, end, (end - start) / TICK
         height = 1.3 + ROW * rows
         self.figure = pyplot.figure(figsize=(WIDTH, height))
@@ -78,21 +88,14 @@ class Page:
         self.axes.set_ylim(rows, 0)
         self.point = self.wide / ((WIDTH - LEFT - RIGHT) * 72)
         self.labels = []
-        title = "%s to %s UTC" % (to_text(start)[:-1], to_text(end)[:-1])
-        offset = ", UT1 - UTC %d ms" % head.dut1 if head.dut1 else ""
-        self.figure.text(0.15 / WIDTH, 1 - 0.15 / height, "Plan of %s, resolution %d s%s" % (title, head.resolution, offset), va="top", fontsize=11)
-        self.legend(height)
+        window = "%s of %s to %s UTC" % (title, to_text(start)[:-1], to_text(end)[:-1])
+        offset = ", UT1 - UTC = %d ms" % head.dut1 if head.dut1 else ""
+        said = "%s, resolution %d s%s%s" % (window, head.resolution, offset, which)
+        self.figure.text(0.15 / WIDTH, 1 - 0.15 / height, said, va="top", fontsize=11)
+        self.legend(height, SHOWN if title == "Plan" else BOOKED)
         set_times(self.axes, start, end, start, TICK)
 
-    def legend(self, height):
-        shown = [
-            Patch(facecolor=VISIBLE, edgecolor="black", linewidth=0.5, label="certainly visible"),
-            Line2D([], [], color=HIDDEN, linewidth=1.2, label="certainly hidden"),
-            Patch(facecolor="white", edgecolor=UNDECIDED, hatch="/////", label="undecided"),
-            Line2D([], [], color="black", marker="|", markersize=9, linewidth=0, label="undecided, narrower than a point"),
-            Patch(facecolor=SUNLIT, edgecolor="black", linewidth=0.4, label="certainly sunlit (strip below)"),
-            Line2D([], [], color=DARK, linewidth=0.9, linestyle=":", label="certainly dark (strip below)"),
-        ]
+    def legend(self, height, shown):
         self.figure.legend(handles=shown, loc="upper left", bbox_to_anchor=(0.09 / WIDTH, 1 - 0.4 / height), ncol=6, frameon=False, columnspacing=1.2)
 
     def shown(self, spans, letter):
@@ -134,12 +137,25 @@ class Page:
             self.words(at + 0.79, "light %s: %s" % (lit.kind, row_words(lit)), 6)
         return None
 
+    def antenna(self, at, number, uses):
+        """The contacts of an antenna, each with its satellite's number above where it has room."""
+        self.labels.append((at + 1.35, "antenna %d" % number))
+        self.axes.hlines(at + 1.35, 0.0, self.wide, color=HIDDEN, linewidth=0.6, zorder=1)
+        free = 0.0
+        for use in sorted(uses):
+            for low, wide in self.shown([Span("V", use.contact.start, use.contact.end)], "V"):
+                self.axes.broken_barh([(low, wide)], (at + 1.1, 0.5), facecolor=VISIBLE, edgecolor="black", linewidth=0.4, zorder=2)
+                if low + wide / 2 >= free:
+                    text = "%d" % use.contact.number
+                    self.axes.text(low + wide / 2, at + 1.05, text, rotation=90, ha="center", va="bottom", fontsize=5.5, zorder=3)
+                    free = low + wide / 2 + 7 * self.point
+
     def words(self, at, text, size):
         self.axes.text(self.point * 4, at, text, va="center", fontsize=size, style="italic", zorder=6)
 
-    def station(self, at, index, name):
+    def station(self, at, index, name, more=""):
         self.axes.axhspan(at, at + 1, color="#EEEEEE", zorder=0)
-        self.axes.text(self.point * 4, at + 0.55, "Station %d: %s" % (index, name), va="center", fontsize=9, weight="bold")
+        self.axes.text(self.point * 4, at + 0.55, "Station %d: %s%s" % (index, name, more), va="center", fontsize=9, weight="bold")
 
     def saved(self, folder, name, kinds):
         self.axes.set_yticks([at for at, _ in self.labels])
@@ -176,10 +192,12 @@ def draw_plan(plan, folder, kinds, stations, numbers):
     """All pages; the list of what each shows."""
     pages, listed = paged(plan_rows(plan, stations, numbers)), []
     parts = slices(plan.head)
+    count = len(pages) * len(parts)
     for groups in pages:
         for start, end in parts:
-            name = "plan" if len(pages) * len(parts) == 1 else "plan-%03d" % (len(listed) + 1)
-            draw_page(plan, groups, start, end).saved(folder, name, kinds)
+            name = "plan" if count == 1 else "plan-%03d" % (len(listed) + 1)
+            which = "" if count == 1 else ", page %d of %d" % (len(listed) + 1, count)
+            draw_page(plan, groups, start, end, which).saved(folder, name, kinds)
             shown = ", ".join("%d: %d to %d" % (rows[0][0], rows[0][1].number, rows[-1][1].number) for rows in groups)
             listed.append((name, to_text(start), to_text(end), shown))
     if len(listed) > 1:
@@ -188,14 +206,55 @@ def draw_plan(plan, folder, kinds, stations, numbers):
     return listed
 
 
-def draw_page(plan, groups, start, end):
-    page, at = Page(plan.head, sum(len(rows) + 1 for rows in groups), start, end), 0
+def draw_page(plan, groups, start, end, which=""):
+    page, at = Page(plan.head, sum(len(rows) + 1 for rows in groups), start, end, which=which), 0
     for rows in groups:
         page.station(at, rows[0][0], plan.head.stations[rows[0][0] - 1])
         for index, sat in rows:
             at += 1
             page.row(at, plan, index, sat)
         at += 1
+    return page
+
+
+def booking_rows(book, stations):
+    """By station: its antennas that have contacts; 0 where none has."""
+    for index in stations or range(1, len(book.head.stations) + 1):
+        yield [(index, antenna) for antenna in sorted({use.antenna for use in book.bookings[index - 1].uses})] or [(index, 0)]
+
+
+def duration(ticks):
+    seconds, parts = divmod(ticks, TICK)
+    return "%d:%02d:%02d.%04d" % (seconds // 3600, seconds // 60 % 60, seconds % 60, parts)
+
+
+def draw_book(book, folder, kinds, stations):
+    """All pages of a booking; how many there are."""
+    pages, parts, drawn = paged(booking_rows(book, stations), 2), slices(book.head), 0
+    count = len(pages) * len(parts)
+    for groups in pages:
+        for start, end in parts:
+            drawn += 1
+            name, which = ("booking", "") if count == 1 else ("booking-%03d" % drawn, ", page %d of %d" % (drawn, count))
+            draw_bookings(book, groups, start, end, which).saved(folder, name, kinds)
+    return count
+
+
+def draw_bookings(book, groups, start, end, which=""):
+    page, at = Page(book.head, sum(2 * len(rows) + 1 for rows in groups), start, end, "Booking", which), 0
+    for rows in groups:
+        index = rows[0][0]
+        booking = book.bookings[index - 1]
+        booked = ", %d of %d contacts, %s booked" % (len(booking.uses), booking.contacts, duration(booking.value))
+        page.station(at, index, book.head.stations[index - 1], "" if booking.too_many else booked)
+        at += 1
+        for _, antenna in rows:
+            if antenna:
+                page.antenna(at, antenna, [use for use in booking.uses if use.antenna == antenna])
+            else:
+                said = "TOOMANY: %d contacts, more than can be booked" % booking.contacts if booking.too_many else "no contacts"
+                page.words(at + 1, said, 7.5)
+            at += 2
     return page
 
 
@@ -220,13 +279,22 @@ def draw_edges(plan, folder, kinds, number):
     title = "The edges of a pass of %d%s over %s\ncertainly visible from %s to %s UTC"
     title %= (one.sat.number, name, one.station, to_text(one.start)[:-1], to_text(one.end)[:-1])
     figure.text(0.012, 0.96, title, va="top", fontsize=10, linespacing=1.5)
-    draw_edge(both[0], spans, plan.head, one.first, one.start, "It rises", "with the window's start it is visible already")
-    draw_edge(both[1], spans, plan.head, one.end, one.last, "It sets", "at the window's end it is visible still")
+    rises = edge_words(one.first, one.start, "It rises", plan.head.start, "before the window begins")
+    sets = edge_words(one.end, one.last, "It sets", plan.head.end, "after the window ends")
+    draw_edge(both[0], spans, plan.head, one.first, one.start, rises)
+    draw_edge(both[1], spans, plan.head, one.end, one.last, sets)
     saved(figure, folder, "edges", kinds)
     return True
 
 
-def draw_edge(axes, spans, head, low, high, title, otherwise):
+def edge_words(low, high, title, border, otherwise):
+    """What is said of an edge: how long it is undecided, or why it is not."""
+    if low < high:
+        return "%s: undecided for %d.%d ms" % (title, (high - low) // 10, (high - low) % 10)
+    return "%s %s" % (title, otherwise if low == border else "without an undecided tick")
+
+
+def draw_edge(axes, spans, head, low, high, title):
     """The spans around an undecided one, in milliseconds or seconds from its start."""
     length = max(high - low, 1)
     start, end = low - 2 * length, high + 2 * length
@@ -247,8 +315,7 @@ def draw_edge(axes, spans, head, low, high, title, otherwise):
     for first, last, words in ((start, head.start, "before the window"), (head.end, end, "after the window")):
         if 20 * (last - first) > end - start:
             axes.text(((first + last) / 2 - low) / unit, 0.5, words, ha="center", va="center", style="italic")
-    said = "%s: undecided for %d.%d ms" % (title, (high - low) // 10, (high - low) % 10) if low < high else "%s: %s" % (title, otherwise)
-    axes.set_title(said, fontsize=9, loc="left")
+    axes.set_title(title, fontsize=9, loc="left")
     axes.set_xlim((start - low) / unit, (end - low) / unit)
     axes.set_ylim(0, 1)
     axes.set_yticks([])

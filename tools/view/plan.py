@@ -190,17 +190,21 @@ class Lines:
 def read_head(lines, first):
     if lines.next(first) != first:
         lines.refuse("the first line is not %s" % first)
-    start, end, resolution = lines.fields("WINDOW", 3)
-    start, end = lines.tick(start), lines.tick(end)
-    if not 0 < end - start <= LONGEST:
-        lines.refuse("a window is longer than nothing and at most ten days long")
-    resolution, dut1 = lines.whole(resolution, 1, 60), 0
+    window, dut1 = read_window(lines), 0
     if lines.ahead() == "DUT1":
         text = lines.fields("DUT1", 1)[0]
         if not OFFSET.fullmatch(text) or not -900 <= int(text) <= 900:
             lines.refuse("%r is no offset from -900 to 900 but 0" % text)
         dut1 = int(text)
-    return Head(start, end, resolution, dut1, read_stations(lines), read_sats(lines))
+    return window._replace(dut1=dut1, stations=read_stations(lines), sats=read_sats(lines))
+
+
+def read_window(lines):
+    start, end, resolution = lines.fields("WINDOW", 3)
+    start, end = lines.tick(start), lines.tick(end)
+    if not 0 < end - start <= LONGEST:
+        lines.refuse("a window is longer than nothing and at most ten days long")
+    return Head(start, end, lines.whole(resolution, 1, 60), 0, [], [])
 
 
 def read_stations(lines):
@@ -223,8 +227,15 @@ def read_sats(lines):
         if fate != "OK" and fate not in FATES:
             lines.refuse("%r is no fate" % fate)
         numbers.add(number)
-        sats.append(Sat(number, fate, lines.name(name)))
+        sats.append(Sat(number, fate, read_name(lines, name)))
     return sats
+
+
+def read_name(lines, name):
+    """The name of a satellite, which has no blank in front."""
+    if name.startswith(" "):
+        lines.refuse("the name of a satellite does not begin with a blank")
+    return lines.name(name)
 
 
 def read_row(lines, head, word, letters, number, index):
@@ -313,12 +324,13 @@ def read_booking(lines, head, index, accepted):
     if line[2] == "TOOMANY":
         return Booking(lines.whole(line[3], 65_537, 10**9), True, 0, [], [])
     count, value = lines.whole(line[2], 0, 65_536), lines.whole(line[3], 0, 2**64 - 1)
-    return Booking(count, False, value, read_uses(lines, head, count, value, accepted), read_prices(lines, head))
+    return Booking(count, False, value, read_uses(lines, head, count, value, accepted), read_prices(lines, head, count))
 
 
 def read_uses(lines, head, count, value, accepted):
-    """The contacts that have an antenna; the value is their length in ticks."""
-    uses, busy, left = [], {}, value
+    """The contacts that have an antenna; the value is their length in ticks. Where there are contacts one has an antenna, since
+    no value is 0, and those of a satellite are apart, since between two visible spans lies another one."""
+    uses, busy, seen, left = [], {}, {}, value
     while lines.ahead() == "USE":
         start, end, number, antenna = lines.fields("USE", 4)
         contact = Contact(lines.tick(start), lines.tick(end), lines.whole(number, 0, 999_999_999))
@@ -331,24 +343,29 @@ def read_uses(lines, head, count, value, accepted):
             lines.refuse("contacts stand by start, end, number")
         if contact.start < busy.get(antenna, contact.start):
             lines.refuse("antenna %d has two contacts at once" % antenna)
-        busy[antenna] = contact.end
+        if contact.start <= seen.get(contact.number, contact.start - 1):
+            lines.refuse("two contacts of %d are not apart" % contact.number)
+        busy[antenna] = seen[contact.number] = contact.end
         uses.append(Use(contact, antenna))
         if len(uses) > count or left < 0:
             lines.refuse("more contacts have an antenna than the line BOOK counts")
-    if left != 0:
+    if left != 0 or count and not uses:
         lines.next("USE")
-        lines.refuse("the contacts that have an antenna are shorter than the value in the line BOOK")
+        lines.refuse("the contacts that have an antenna are shorter than the value in the line BOOK, or none of them has one")
     return uses
 
 
-def read_prices(lines, head):
+def read_prices(lines, head, count):
+    """The prices above 0. There is at most one for each stretch between neighbouring ends of the station's contacts."""
     prices = []
     while lines.ahead() == "PRICE":
         start, end, price = lines.fields("PRICE", 3)
-        price = Price(lines.tick(start), lines.tick(end), lines.whole(price, 1, 2**128 - 1))
+        price = Price(lines.tick(start), lines.tick(end), lines.whole(price, 1, 2**64 - 1))
         if not (prices[-1].end if prices else head.start) <= price.start < price.end <= head.end:
             lines.refuse("prices stand in order, for stretches that do not overlap")
         prices.append(price)
+        if len(prices) > 2 * count - 1:
+            lines.refuse("%d contacts have fewer stretches between their ends" % count)
     return prices
 
 

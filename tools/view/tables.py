@@ -4,7 +4,8 @@ passes.csv      a line for each certainly visible span, by station and time
 unplanned.csv   a line for each satellite that was refused and each row that has no spans, so that no absence is silent
 bookings.csv    a line for each contact that has an antenna
 
-Instants stand as the program prints them. The certainly sunlit share of a pass is the length of its common part with the sunlit
+Instants stand as the program prints them, and so do stations; where two have the same printed name, with their number behind it.
+The certainly sunlit share of a pass is the length of its common part with the sunlit
 spans, over its length, in decimals cut off, never rounded up; it is empty where the satellite's light is not known.
 """
 import csv
@@ -22,7 +23,7 @@ REFUSED = {
 }
 PASSES = ("station", "satellite", "name", "certain from", "certain to", "possible from", "possible to", "certainly sunlit share")
 UNPLANNED = ("station", "satellite", "name", "what", "why")
-BOOKINGS = ("station", "satellite", "from", "to", "antenna")
+BOOKINGS = ("station", "antenna", "satellite", "from", "to")
 
 
 def row_words(row):
@@ -31,15 +32,21 @@ def row_words(row):
         return "it only grazes from %s to %s, longer than the resolution" % (to_text(row.start), to_text(row.end))
     if row.kind == "FULL":
         return "the plan's spans were used up when it came to %s" % to_text(row.start)
-    return "the model sinks at %s" % to_text(row.start)
+    return "by its equations the satellite has come down at %s" % to_text(row.start)
+
+
+def station_names(head):
+    """The names of the stations as they are printed, those that stand twice with their number."""
+    twice = {name for name in head.stations if head.stations.count(name) > 1}
+    return ["%s (station %d)" % (name, k) if name in twice else name for k, name in enumerate(head.stations, 1)]
 
 
 class Pass:
     """A certainly visible span of a satellite at a station, with the undecided spans around it joined."""
 
-    def __init__(self, plan, index, sat, k):
+    def __init__(self, plan, index, station, sat, k):
         spans = plan.pair[sat.number, index].spans
-        self.index, self.sat, self.station = index, sat, plan.head.stations[index - 1]
+        self.index, self.sat, self.station = index, sat, station
         self.start, self.end = spans[k].start, spans[k].end
         before, after = spans[k - 1] if k > 0 else None, spans[k + 1] if k + 1 < len(spans) else None
         self.first = before.start if before and before.letter == "U" else self.start
@@ -63,9 +70,9 @@ class Pass:
 def passes(plan):
     """All passes, by station, start, end and number, as the tables of the plan have them."""
     sats = [sat for sat in plan.head.sats if sat.fate == "OK"]
-    for index in range(1, len(plan.head.stations) + 1):
+    for index, station in enumerate(station_names(plan.head), 1):
         found = [
-            Pass(plan, index, sat, k)
+            Pass(plan, index, station, sat, k)
             for sat in sats
             for k, span in enumerate(plan.pair[sat.number, index].spans)
             if span.letter == "V"
@@ -81,7 +88,7 @@ def unplanned(plan):
             continue
         if plan.lit[sat.number].kind != "SPANS":
             yield "", sat.number, sat.name, "light " + plan.lit[sat.number].kind, row_words(plan.lit[sat.number])
-        for index, station in enumerate(plan.head.stations, 1):
+        for index, station in enumerate(station_names(plan.head), 1):
             row = plan.pair[sat.number, index]
             if row.kind != "SPANS":
                 yield station, sat.number, sat.name, row.kind, row_words(row)
@@ -105,8 +112,8 @@ def write_unplanned(path, plan):
 
 def write_bookings(path, book):
     rows = (
-        (station, use.contact.number, to_text(use.contact.start), to_text(use.contact.end), use.antenna)
-        for station, booking in zip(book.head.stations, book.bookings)
+        (station, use.antenna, use.contact.number, to_text(use.contact.start), to_text(use.contact.end))
+        for station, booking in zip(station_names(book.head), book.bookings)
         for use in booking.uses
     )
     write(path, BOOKINGS, rows)

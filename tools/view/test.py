@@ -1,9 +1,9 @@
 """Tests of the tools that read and show plans.
 
-    /usr/bin/python3 tools/view/test.py
+    /usr/bin/python3 tools/view/test.py [TEXT..]
 
 The reader is tried on the samples as they stand, and on each sample with one line changed, left out or doubled: each such text
-is refused, at the line that is wrong. Tables, calendar and pictures are held against counts and sums taken from the sample's lines
+is refused, at the line that is wrong. Further texts that the program printed are read, made tables and calendars, and counted. Tables, calendar and pictures are held against counts and sums taken from the sample's lines
 by a few lines of this script. The calendar is read back by icalendar. Where icalendar or matplotlib is not installed, the tests
 that need it are skipped and say so.
 """
@@ -32,6 +32,7 @@ except ModuleNotFoundError:
 
 PLANS = ("deep.txt", "station.txt", "two.txt", "answers.txt")
 BOOKS = ("book.txt",)
+MORE = {"PASSPLAN": [], "PASSBOOK": []}  # texts that are given
 LACK = "%s is not installed (apt-get install python3-icalendar python3-matplotlib, then /usr/bin/python3)"
 
 
@@ -46,7 +47,7 @@ def lines_of(name):
 
 def read(name, lines):
     text = "".join(line + "\n" for line in lines).encode()
-    return layout.read_book(text) if name in BOOKS else layout.read_plan(text)
+    return layout.read_book(text) if name in BOOKS or name in MORE["PASSBOOK"] else layout.read_plan(text)
 
 
 def instant(text):
@@ -69,13 +70,13 @@ class Reads(unittest.TestCase):
         self.assertEqual(caught.exception.line, wanted, (name, str(caught.exception)))
 
     def test_samples_are_read(self):
-        for name in PLANS:
+        for name in (*PLANS, *MORE["PASSPLAN"]):
             plan, lines = read(name, lines_of(name)), lines_of(name)
             rows = list(plan.lit.values()) + list(plan.pair.values())
             self.assertEqual(sum(len(row.spans) for row in rows), sum(line[1] == " " for line in lines), name)
             self.assertEqual([len(table) for table in plan.tables], [int(line.split()[2]) for line in lines if line.startswith("TABLE ")])
             self.assertEqual(len(plan.head.sats), sum(line.startswith("SAT ") for line in lines))
-        for name in BOOKS:
+        for name in (*BOOKS, *MORE["PASSBOOK"]):
             book, lines = read(name, lines_of(name)), lines_of(name)
             self.assertEqual(sum(len(one.uses) for one in book.bookings), sum(line.startswith("USE ") for line in lines))
             self.assertEqual(sum(len(one.prices) for one in book.bookings), sum(line.startswith("PRICE ") for line in lines))
@@ -130,6 +131,9 @@ class Reads(unittest.TestCase):
 
 
 WINDOW = "WINDOW 1999-12-31T23:30:00.0000Z 2000-01-01T00:30:00.0000Z 10"
+USE = "USE 2000-06-27T00:05:00.0000Z 2000-06-27T00:15:00.0000Z 90002 2"
+LAST_USE = "USE 2000-06-27T00:10:00.0000Z 2000-06-27T00:20:00.0000Z 90004 1"
+PRICE = "PRICE 2000-06-27T00:05:00.0000Z 2000-06-27T00:10:00.0000Z 2000000"
 CHANGES = [
     ("answers.txt", "PASSPLAN 1", "PASSPLAN 2"),
     ("answers.txt", WINDOW, WINDOW[:-2] + "61"),
@@ -151,6 +155,7 @@ CHANGES = [
     ("answers.txt", "SAT 3 ECCENTRIC \"", "SAT 0 ECCENTRIC \""),
     ("answers.txt", "SAT 3 ECCENTRIC \"", "SAT 03 ECCENTRIC \""),
     ("answers.txt", "SAT 999999999 OK x_1 $\\alpha$; a,b", "SAT 1000000000 OK x"),
+    ("answers.txt", "SAT 5 DRAG -", "SAT 5 DRAG  -"),
     ("answers.txt", "LIT 0 UNRESOLVED 1999-12-31T23:30:00.0000Z 1999-12-31T23:30:10.0001Z", "LIT 0 UNRESOLVED 1999-12-31T23:30:00.0000Z 1999-12-31T23:30:10.0000Z"),
     ("answers.txt", "LIT 0 UNRESOLVED 1999-12-31T23:30:00.0000Z 1999-12-31T23:30:10.0001Z", "LIT 0 UNRESOLVED 1999-12-31T23:29:59.9999Z 1999-12-31T23:30:10.0000Z"),
     ("answers.txt", "PAIR 0 3 FULL 1999-12-31T23:30:00.0000Z", "PAIR 0 3 FULL 2000-01-01T00:30:00.0000Z"),
@@ -176,12 +181,19 @@ CHANGES = [
     ("book.txt", "BOOK 2 0 0", "BOOK 2 0 1", 1),
     ("book.txt", "BOOK 3 TOOMANY 65537", "BOOK 3 TOOMANY 65536"),
     ("book.txt", "BOOK 3 TOOMANY 65537", "BOOK 3 65537 0"),
-    ("book.txt", "USE 2000-06-27T00:05:00.0000Z 2000-06-27T00:15:00.0000Z 90002 2", "USE 2000-06-27T00:05:00.0000Z 2000-06-27T00:15:00.0000Z 90002 1"),
-    ("book.txt", "USE 2000-06-27T00:05:00.0000Z 2000-06-27T00:15:00.0000Z 90002 2", "USE 2000-06-27T00:05:00.0000Z 2000-06-27T00:15:00.0000Z 90003 2"),
-    ("book.txt", "USE 2000-06-27T00:05:00.0000Z 2000-06-27T00:15:00.0000Z 90002 2", "USE 2000-06-27T00:05:00.0000Z 2000-06-27T00:15:00.0000Z 90002 0"),
-    ("book.txt", "USE 2000-06-27T00:05:00.0000Z 2000-06-27T00:15:00.0000Z 90002 2", "USE 2000-06-27T00:00:00.0000Z 2000-06-27T00:10:00.0000Z 90001 2"),
-    ("book.txt", "PRICE 2000-06-27T00:05:00.0000Z 2000-06-27T00:10:00.0000Z 10", "PRICE 2000-06-27T00:05:00.0000Z 2000-06-27T00:10:00.0000Z 0"),
-    ("book.txt", "PRICE 2000-06-27T00:10:00.0000Z 2000-06-27T00:15:00.0000Z 18446744073709551616", "PRICE 2000-06-27T00:09:59.9999Z 2000-06-27T00:15:00.0000Z 1"),
+    ("book.txt", USE, USE[:-1] + "1"),
+    ("book.txt", USE, USE[:-1] + "0"),
+    ("book.txt", USE, USE[:-1] + "65"),
+    ("book.txt", USE, USE.replace("90002", "90003")),
+    ("book.txt", USE, USE.replace("00:05:00.0000Z", "00:00:00.0000Z").replace("90002", "90000")),
+    ("book.txt", USE, USE.replace("00:05:00.0000Z", "00:15:00.0000Z")),
+    ("book.txt", USE, USE.replace("00:15:00.0000Z", "01:00:00.0001Z")),
+    ("book.txt", LAST_USE, LAST_USE.replace("90004", "90001")),
+    ("book.txt", PRICE, PRICE[:-7] + "0"),
+    ("book.txt", PRICE, PRICE[:-7] + "18446744073709551616"),
+    ("book.txt", PRICE, PRICE.replace("00:05:00.0000Z", "00:10:00.0000Z")),
+    ("book.txt", PRICE, PRICE.replace("00:10:00.0000Z", "00:10:00.0001Z"), 1),
+    ("book.txt", "BOOK 2 0 0", "BOOK 2 1 0", 1),
 ]
 
 
@@ -194,7 +206,7 @@ class Tables(unittest.TestCase):
                 return list(csv.reader(file))
 
     def test_a_pass_for_each_visible_span(self):
-        for name in PLANS:
+        for name in (*PLANS, *MORE["PASSPLAN"]):
             lines = lines_of(name)
             rows = self.rows(tables.write_passes, read(name, lines))
             self.assertEqual(rows[0], list(tables.PASSES))
@@ -226,8 +238,16 @@ class Tables(unittest.TestCase):
 
     def test_bookings(self):
         rows = self.rows(tables.write_bookings, read("book.txt", lines_of("book.txt")))
-        self.assertEqual(rows[1], ["Pole", "90001", "2000-06-27T00:00:00.0000Z", "2000-06-27T00:10:00.0000Z", "1"])
+        self.assertEqual(rows[0], ["station", "antenna", "satellite", "from", "to"])
+        self.assertEqual(rows[2], ["Pole", "2", "90002", "2000-06-27T00:05:00.0000Z", "2000-06-27T00:15:00.0000Z"])
         self.assertEqual(len(rows), 4)
+        for name in MORE["PASSBOOK"]:
+            found = [" ".join((row[3], row[4], row[2], row[1])) for row in self.rows(tables.write_bookings, read(name, lines_of(name)))[1:]]
+            self.assertEqual(found, [line[4:] for line in lines_of(name) if line.startswith("USE ")], name)
+
+    def test_stations_of_one_name_are_told_apart(self):
+        rows = self.rows(tables.write_unplanned, read("answers.txt", lines_of("answers.txt")))[1:]
+        self.assertEqual([row[0] for row in rows if row[0]], [" - (station 2)", " - (station 3)", " - (station 2)"])
 
 
 @unittest.skipUnless(icalendar, LACK % "icalendar")
@@ -240,7 +260,7 @@ class Events(unittest.TestCase):
         return text, icalendar.Calendar.from_ical(text)
 
     def test_an_event_for_each_visible_span(self):
-        for name in PLANS:
+        for name in (*PLANS, *MORE["PASSPLAN"]):
             text, calendar = self.calendar(name)
             found = [part for part in calendar.walk("VEVENT")]
             self.assertEqual(len(found), sum(line.startswith("V ") for line in lines_of(name)), name)
@@ -249,7 +269,7 @@ class Events(unittest.TestCase):
             self.assertEqual((str(calendar["version"]), "prodid" in calendar), ("2.0", True))
 
     def test_events_are_utc_inside_their_spans(self):
-        for name in PLANS:
+        for name in (*PLANS, *MORE["PASSPLAN"]):
             contacts = [line.split()[1:] for line in lines_of(name) if line.startswith("PASS ")]
             events = self.calendar(name)[1].walk("VEVENT")
             for (low, high, number), event in zip(contacts, events):
@@ -261,8 +281,17 @@ class Events(unittest.TestCase):
                 self.assertTrue(event["summary"].startswith(number))
                 self.assertIn("Certainly visible from %s to %s." % (low, high), event["description"])
 
+    def test_no_calendar_without_an_event(self):
+        import events
+
+        with tempfile.TemporaryDirectory() as folder:
+            path = os.path.join(folder, "passes.ics")
+            self.assertTrue(events.write_events(path, read("station.txt", lines_of("station.txt"))))
+            self.assertFalse(events.write_events(path, read("deep.txt", lines_of("deep.txt"))))
+            self.assertEqual(os.listdir(folder), [])
+
     def test_lines_are_those_of_the_standard(self):
-        for name in PLANS:
+        for name in (*PLANS, *MORE["PASSPLAN"]):
             lines = self.calendar(name)[0].split(b"\r\n")
             self.assertEqual(lines[-1], b"")
             self.assertTrue(all(len(line) <= 75 and b"\n" not in line for line in lines))
@@ -296,8 +325,28 @@ class Pictures(unittest.TestCase):
         plan = read("answers.txt", lines_of("answers.txt"))
         page = pictures.draw_page(plan, list(pictures.plan_rows(plan, [], [])), plan.head.start, plan.head.end)
         said = "\n".join(text.get_text() for text in page.axes.texts)
-        for word in ("UNRESOLVED", "FULL", "DECAYS", *layout.FATES, "only grazes", "used up", "the model sinks"):
+        for word in ("UNRESOLVED", "FULL", "DECAYS", *layout.FATES, "only grazes", "used up", "come down"):
             self.assertIn(word, said)
+
+    def test_edges_are_said_in_words(self):
+        import pictures
+
+        said = [pictures.edge_words(*row, 0, "before it begins") for row in ((3, 12, "It rises"), (0, 0, "It rises"), (5, 5, "It rises"))]
+        self.assertEqual(said, ["It rises: undecided for 0.9 ms", "It rises before it begins", "It rises without an undecided tick"])
+
+    def test_bookings_are_drawn(self):
+        import pictures
+
+        book = read("book.txt", lines_of("book.txt"))
+        page = pictures.draw_bookings(book, list(pictures.booking_rows(book, [])), book.head.start, book.head.end)
+        said = [text.get_text() for text in page.axes.texts]
+        self.assertEqual(said.count("90001") + said.count("90002") + said.count("90004"), 3)
+        self.assertEqual([text for text in said if text.startswith("TOOMANY: 65537") or text == "no contacts"], said[-3::2])
+        self.assertEqual([text for _, text in page.labels], ["antenna 1", "antenna 2"])
+        many = pictures.paged([[(1, antenna) for antenna in range(1, 65)], [(2, 0)]], 2)
+        self.assertEqual(([len(rows) for groups in many for rows in groups], len(many)), ([22, 22, 20, 1], 3))
+        with tempfile.TemporaryDirectory() as folder:
+            self.assertEqual((pictures.draw_book(book, folder, ("png",), []), os.listdir(folder)), (1, ["booking.png"]))
 
     def test_many_rows_and_days_take_more_pages(self):
         import pictures
@@ -330,6 +379,8 @@ class Command(unittest.TestCase):
 
 
 def main():
+    for name in map(os.path.abspath, sys.argv[1:]):
+        MORE[lines_of(name)[0].partition(" ")[0]].append(name)
     for name, package in (("icalendar", icalendar), ("matplotlib", matplotlib)):
         if package is None:
             print("test.py: skipping: " + LACK % name)

@@ -4,7 +4,7 @@
 
 PLAN is a file with the printed text, or - for standard input. FOLDER is made where it is not there. Of a plan it has then
 passes.csv, unplanned.csv, passes.ics, the pages plan.png and plan.svg (or plan-001 and so on, listed in pages.csv), and
-edges.png and edges.svg with one pass near its edges; of a booking bookings.csv.
+edges.png and edges.svg with one pass near its edges; of a booking bookings.csv and the pages booking.png and booking.svg.
 
     --station, --number   draw these stations and satellites only
     --pass                draw the edges of this pass, counted from 1 in passes.csv
@@ -52,7 +52,8 @@ def write_all(plan, asked):
     if "events" in what:
         import events
 
-        events.write_events(os.path.join(asked.folder, "passes.ics"), plan)
+        if not events.write_events(os.path.join(asked.folder, "passes.ics"), plan):
+            print("view: no pass is certainly visible, so there is no calendar", file=sys.stderr)
     if "plan" in what or "edges" in what:
         import pictures
 
@@ -60,6 +61,18 @@ def write_all(plan, asked):
             pictures.draw_plan(plan, asked.folder, kinds, asked.station, asked.number)
         if "edges" in what and not pictures.draw_edges(plan, asked.folder, kinds, asked.which):
             print("view: no such pass, so no picture of its edges", file=sys.stderr)
+
+
+def write_booking(book, asked):
+    kinds = [name for name in asked.only if name in KINDS] or KINDS
+    if "passes" in asked.only or not set(asked.only) & set(WHAT):
+        import tables
+
+        tables.write_bookings(os.path.join(asked.folder, "bookings.csv"), book)
+    if "plan" in asked.only or not set(asked.only) & set(WHAT):
+        import pictures
+
+        pictures.draw_book(book, asked.folder, kinds, asked.station)
 
 
 def main():
@@ -70,16 +83,11 @@ def main():
         print("view: %s: %s" % (asked.plan, fault), file=sys.stderr)
         return 1
     os.makedirs(asked.folder, exist_ok=True)
-    if isinstance(plan, layout.Book):
-        import tables
-
-        tables.write_bookings(os.path.join(asked.folder, "bookings.csv"), plan)
-        return 0
     if not all(1 <= index <= len(plan.head.stations) for index in asked.station):
         print("view: the plan has stations 1 to %d" % len(plan.head.stations), file=sys.stderr)
         return 1
     try:
-        write_all(plan, asked)
+        (write_booking if isinstance(plan, layout.Book) else write_all)(plan, asked)
     except ModuleNotFoundError as lack:
         print(LACKS % lack.name, file=sys.stderr)
         return 2

@@ -1,11 +1,13 @@
 #!/usr/bin/env bash
-# Writes the samples that the program prints: deep.txt, station.txt and two.txt. answers.txt and book.txt are made by hand, since
-# a plan seldom has all their answers at once. Run it at the top of the repository once the program is built; the tests count what
-# the samples have and need no other change.
+# Writes the samples that the program prints: deep.txt, station.txt and two.txt; and docs/plan.png, the picture of the plan of
+# examples/ that README.md shows, where the packages for pictures are there. answers.txt and book.txt are made by hand, since a plan
+# seldom has all their answers at once. Run it once the program is built; the tests count what the samples have and need no other
+# change.
 #
 #     tools/view/samples/make.sh [PROGRAM]
 here=$(cd "$(dirname "${BASH_SOURCE[0]}")" && pwd) || exit 2
 program=$(realpath "${1:-$here/../../../crates/passplan/out/passplan}") || exit 2
+top=$(realpath "$here/../../..") || exit 2
 folder=$(mktemp -d) || exit 2
 trap 'rm -rf "$folder"' EXIT
 cd "$folder" || exit 2
@@ -64,11 +66,17 @@ lon = "281.5"
 height = "2850"
 mask = "10"
 END
-# plan NAME SETS STATIONS START END RESOLUTION   status 0 and 1 are those of a plan
+# plan FILE SETS STATIONS START END RESOLUTION   status 0 and 1 are those of a plan
 plan() {
-  "$program" plan --catalogue="$2" --stations="$3" --start="$4" --end="$5" --res="$6" >"$1"
-  [ $? -le 1 ] && mv "$1" "$here/$1" || { echo "make.sh: $1: $(cat "$1")" >&2; exit 1; }
+  "$program" plan --catalogue="$2" --stations="$3" --start="$4" --end="$5" --res="$6" >printed
+  [ $? -le 1 ] && mv printed "$1" || { echo "make.sh: $1: $(cat printed)" >&2; exit 1; }
 }
-plan deep.txt deep pole.toml 2000-06-27T00:00:00Z 2000-06-27T01:00:00Z 1
-plan station.txt station station.toml 2008-09-20T12:00:00Z 2008-09-21T12:00:00Z 1
-plan two.txt two two.toml 2008-09-20T12:00:00Z 2008-09-21T00:00:00Z 10
+plan "$here/deep.txt" deep pole.toml 2000-06-27T00:00:00Z 2000-06-27T01:00:00Z 1
+plan "$here/station.txt" station station.toml 2008-09-20T12:00:00Z 2008-09-21T12:00:00Z 1
+plan "$here/two.txt" two two.toml 2008-09-20T12:00:00Z 2008-09-21T00:00:00Z 10
+
+plan example "$top/examples/iss.tle" "$top/examples/stations.toml" 2008-09-20T12:00:00Z 2008-09-21T12:00:00Z 1
+for python in python3 /usr/bin/python3; do
+  ! "$python" -c 'import matplotlib' 2>/dev/null || break
+done
+"$python" "$top/tools/view/view.py" example shown --only=plan --only=png && cp shown/plan.png "$top/docs/plan.png"
