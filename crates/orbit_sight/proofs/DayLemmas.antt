@@ -1,5 +1,5 @@
 -- The numbers of a day solution are small, and what an interval of the daylight product says of it.
-use Rattle.std.proofs.Common.{arith, [], ◌∷◌, T, Bool, le_refl as nat_refl, ℕ, ◌+◌, ◌*◌, ◌≤◌, pos, negsuc, ◌≤ℤ◌}
+use Rattle.std.proofs.Common.{◌≡◌, subst, arith, [], ◌∷◌, T, Bool, le_refl as nat_refl, ℕ, ◌+◌, ◌*◌, ◌<◌, ◌≤◌, ℤ, pos, negsuc, ◌≤ℤ◌}
 use Rattle.std.proofs.Math.Nat.{mul-le-mul}
 use Rattle.std.proofs.lemmas.Int.{ints}
 use Rattle.exact.specs.Rational.{ℚ, ◌+ℚ◌, ◌-ℚ◌, ◌*ℚ◌, of_int, one_ℚ, ratio, zero_ℚ, ◌≤ℚ◌}
@@ -10,7 +10,7 @@ use Rattle.exact.specs.Interval.{Inside}
 use Rattle.exact.proofs.Intervals.{inside}
 use Rattle.fixed_iv.specs.Extent.{Extent, width_of}
 use Rattle.fixed_iv.specs.Holds.{Holds, IsBounded}
-use Rattle.fixed_iv.specs.Place.{Place}
+use Rattle.fixed_iv.specs.Place.{Place, on_line}
 use Rattle.fixed_iv.specs.Reach.{IsHeld, from_to, reach_of, turn_range}
 use Rattle.fixed_iv.specs.declared.iv.Iv.{Iv}
 use Rattle.fixed_iv.specs.declared.vec3.Vec3.{Vec3}
@@ -18,11 +18,16 @@ use Rattle.fixed_iv.proofs.OuterLemmas.{width_is}
 use Rattle.fixed_iv.specs.EnclosedVector.{CoversVector, IsHeldVector}
 use Rattle.earth_frame.specs.Spread.{IsSpreadWithin}
 use Rattle.sgp4_model.specs.Angle.{IsNear, IsPi, part}
-use Rattle.sgp4_model.specs.DaySolution.{GrazesHorizon}
+use Rattle.sgp4_model.specs.DaySolution.{EachDaySolution, GrazesHorizon, IsDaySolution}
+use Rattle.sgp4_model.specs.EachSolution.{OfEach}
 use Rattle.sgp4_model.specs.Sun.{IsSun}
+use Rattle.sgp4_model.specs.Time.{IsWithin, Throughout, instant_of_place}
 use Rattle.sgp4_model.specs.Vector.{Vector}
+use Rattle.sgp4_model.proofs.DayExists.{day_solution_exists}
 use Rattle.sgp4_model.proofs.Pythagoras.{sine_pairs_are_bounded}
 use Rattle.orbit_sight.specs.Daylight.{direction}
+use Rattle.orbit_sight.specs.Over.{cell_of, instant_on}
+use Rattle.orbit_sight.proofs.LitLemmas.{on_cell}
 
 -- ---- sines and cosines
 abbrev IsTurnSize : ℚ → Type 0
@@ -85,6 +90,16 @@ turn_room = omega arith
 
 pub sun_room : 2 * 28640 + 256 ≤ 57536
 sun_room = omega arith
+
+-- ---- a part of a cell
+-- what holds of each day solution on a part of the cell holds throughout it
+pub throughout_day : (lat lon : ℚ) (start dut1 : ℤ) (fact : ℚ → Type 0) (m n a b : ℕ) → m < n → ((q : ℚ) → IsWithin a b q → IsWithin m n q) →
+    ((h : Place) (x q : ℚ) → IsWithin a b q → on_line h (of_int (pos m)) (of_int (pos n)) ≡ q → IsDaySolution lat lon (instant_on (cell_of start m n) h) dut1 x → fact x) →
+    Throughout a b (EachDaySolution lat lon start dut1 fact)
+throughout_day lat lon start dut1 fact m n a b longer inside each q w =
+    let on = on_cell start m n q longer (inside q w) in
+    subst (λ z. OfEach (IsDaySolution lat lon (instant_of_place start z) dut1) fact) on.is
+    (record { some = day_solution_exists lat lon (instant_on (cell_of start m n) on.at) dut1; each = λ x s. each on.at x q w on.is s })
 
 -- ---- what an interval says
 -- bounds of at most 2^25 units that hold 0

@@ -19,6 +19,7 @@ use Rattle.station_view.specs.Axes.{EnclosesVector, axis, inner_reach}
 use Rattle.station_view.specs.SpotPairs.{ArePairsOf}
 use Rattle.station_view.specs.declared.spot.Spot.{Spot}
 use Rattle.orbit_sight.specs.Cell.{CoversSomewhere}
+use Rattle.orbit_sight.specs.Over.{CellRecord, instant_on}
 
 -- the track of daylight at a spot
 abbrev pub day_of : Spot → ℤ → ℤ → ℕ → TrackRecord
@@ -33,6 +34,11 @@ abbrev pub CoversEachDay : {A : Type 0} → Ghosts A → Spot → ℤ → ℤ �
 CoversEachDay E spot start dut1 from to result =
     (place product : ℚ) → IsWithin from to place → IsDaySolution (value spot.lat) (value spot.lon) (instant_of_place start place) dut1 product →
     CoversSomewhere E.covers result product
+
+-- at each place of the cell the product of each day solution of the spot is covered
+abbrev pub CoversEachDayAlong : {A : Type 0} → Ghosts A → Spot → ℤ → CellRecord → A → Type 0
+CoversEachDayAlong E spot dut1 cell result =
+    (h : Place) (product : ℚ) → IsDaySolution (value spot.lat) (value spot.lon) (instant_on cell h) dut1 product → E.covers result h product
 
 -- of a direction: each component is at most 1.001 in size, and has at most this spread
 abbrev pub direction : ℕ → VectorReach

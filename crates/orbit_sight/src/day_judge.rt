@@ -6,12 +6,16 @@ ghost use Rattle.orbit_sight.specs.Daylight.{EachLight, day_of};
 ghost use Rattle.sgp4_model.specs.Time.{Throughout};
 ghost use Rattle.station_view.specs.Spot.{IsNoWider};
 
+use crate::day_survey::day_survey;
 use crate::daylight::light_over;
 use elements::Window;
 use enc_plain::Plain;
 use fixed_iv::{Enc, Iv};
-use span_bisect::{Judge, Verdict};
+use span_bisect::{Judge, Survey, Verdict};
 use station_view::Spot;
+
+/// Ticks from which on the Earth turns too far for lines to tell where the Sun rises or sets: eight hours.
+const LONG: u64 = 288_000_000;
 
 /// Judges whether it is light at a place, where UT1 is `dut1_ms` milliseconds more than UTC. Yes: the Sun is above the
 /// horizon. No: it is below.
@@ -68,6 +72,18 @@ impl<'a> Judge for DayJudge<'a> {
     fn judge(&self, from: u64, to: u64) -> Verdict {
         let light: Plain = light_over(self.spot, self.window.start(), self.dut1_ms, from, to);
         verdict_of(light.bounds())
+    }
+
+    fn survey(&self, from: u64, to: u64) -> Survey {
+        if to - from < LONG {
+            return day_survey(self.spot, self.window.start(), self.dut1_ms, from, to);
+        }
+        Survey {
+            first: self.judge(from, to),
+            left: to,
+            right: to,
+            last: Verdict::Unsure,
+        }
     }
 }
 

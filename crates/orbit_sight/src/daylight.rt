@@ -3,7 +3,8 @@ ghost use Rattle.std.specs.Prelude.{◌≡◌, T, ◌+◌, ◌<◌, ◌≤◌, �
 ghost use Rattle.elements.specs.Offset.{IsOffset};
 ghost use Rattle.earth_frame.specs.Spread.{IsSpreadWithin};
 ghost use Rattle.elements.specs.Window.{most_ticks};
-ghost use Rattle.orbit_sight.specs.Daylight.{CoversEachDay, EnclosesEachLight};
+ghost use Rattle.orbit_sight.specs.Daylight.{CoversEachDay, CoversEachDayAlong, EnclosesEachLight};
+ghost use Rattle.orbit_sight.specs.Over.{cell_of};
 
 use crate::cell::time_over;
 use earth_frame::{Turn, sidereal, sun_direction, to_earth};
@@ -17,6 +18,7 @@ pub(crate) fn light_over<E: Enc>(spot: &Spot, start: Instant, dut1_ms: i32, from
     requires offset { IsOffset dut1_ms }
     requires not_empty { from < to }
     requires inside { to ≤ most_ticks }
+    ensures along { CoversEachDayAlong E.Enc spot.now dut1_ms (cell_of start from to) result }
     ensures covers { CoversEachDay E.Enc spot.now start dut1_ms from to result }
     ensures narrow { T E.tells → to ≡ from + 1 → IsSpreadWithin (2 ^ 25) (E.extent result) }
 {

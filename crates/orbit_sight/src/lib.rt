@@ -5,6 +5,7 @@ mod bounded;
 mod cell;
 mod craft;
 mod day_judge;
+mod day_survey;
 mod daylight;
 mod far;
 mod lit_judge;

@@ -94,7 +94,14 @@ impl<'a> Judge for PairJudge<'a> {
 
     fn survey(&self, from: u64, to: u64) -> Survey {
         if are_slopes_of_use(to - from) {
-            return pair_survey(self.craft, self.station, &self.window, self.dut1_ms, from, to);
+            return pair_survey(
+                self.craft,
+                self.station,
+                &self.window,
+                self.dut1_ms,
+                from,
+                to,
+            );
         }
         Survey {
             first: self.judge(from, to),

@@ -9,9 +9,26 @@ use Rattle.sgp4_model.specs.Time.{instant_of_place}
 use Rattle.sgp4_model.proofs.DayExists.{day_solution_exists}
 use Rattle.sgp4_model.proofs.Pythagoras.{sine_pairs_are_bounded}
 use Rattle.station_view.specs.SpotPairs.{ArePairsOf}
+use Rattle.orbit_sight.specs.Cell.{time_of_place}
+use Rattle.orbit_sight.specs.Over.{cell_of, place_on}
 use Rattle.orbit_sight.proofs.CellLemmas.{instant_is, start_within}
 use Rattle.orbit_sight.proofs.DayLemmas.{spread_by, sun_held, sun_room, turn_is_held, turn_room}
 use Rattle.orbit_sight.proofs.daylight.light_over.Goals as goal
+
+pub returns-clause-along : goal.returns-clause-along
+returns-clause-along g c h product s =
+    let start = c.args.start in
+    let place = place_on (cell_of start c.args.from c.args.to) h in
+    let time = c.time_over-t.ensures.along h in
+    let kept = kept_offset c.args.dut1_ms c.requires.offset in
+    let angle = subst (λ t. IsSiderealPair s.pi t c.args.dut1_ms s.turn) (instant_is start place) s.is_sidereal in
+    let toward = subst (λ t. IsSun s.pi t s.sun) (instant_is start place) s.is_sun in
+    let turn = (rw kept at c.sidereal.ensures.covers) h s.pi (time_of_place place) s.turn s.is_pi time angle in
+    let sun = c.sun_direction.ensures.covers h s.pi (time_of_place place) s.sun s.is_pi time toward in
+    let pairs : ArePairsOf c.args.spot.now s.pi s.of_latitude s.of_longitude = record { is_pi = s.is_pi; is_latitude = s.is_latitude; is_longitude = s.is_longitude } in
+    let light = c.daylight.ensures h s.pi s.of_latitude s.of_longitude s.turn s.sun nothing nothing (record { x = nothing; y = nothing; z = nothing })
+    pairs (covered turn.0) (covered turn.1) (record { x = covered sun.x; y = covered sun.y; z = covered sun.z }) in
+    subst (g.E.Enc.covers c.daylight.result h) (sym s.product_is) light.covers
 
 pub returns-clause-covers : goal.returns-clause-covers
 returns-clause-covers g c place product w s =
