@@ -1,8 +1,8 @@
 """Reads the definitions of crates/sgp4_model/specs as they stand and evaluates them in high precision.
 
 A record of facts is gone through field by field: an equation gives its left side a value, or is checked where it has one;
-IsSinCos, IsSqrt and IsCbrt2 give their results the exact values; a fact under a condition counts where the condition holds;
-every other fact is checked. A quotient by anything but a constant is refused where no fact said before, in the same words,
+IsPi, IsSinCos, IsSqrt and IsCbrt2 give their results the exact values; a fact under a condition counts where the condition
+holds; a name of a fact stands for what it says; every other fact is checked. A quotient by anything but a constant is refused where no fact said before, in the same words,
 that its divisor is not 0. No formula of the orbit stands in this file.
 """
 import re
@@ -14,11 +14,15 @@ import mpmath as mp
 
 TOKEN = re.compile(r"\s+|--[^\n]*\n|([A-Za-z_ℚℕℤ][\w₀-₉'ℚℕℤ]*|\d+|[-+*/^]ℚ|[≤<]ℚ|≡|→|×|¬|[-+*/^(){}:;,.=λ∷|⊎])")
 SET_TYPES = {"ℚ", "ℕ", "ℤ"}
-BINARY = {"≡": (4, 0), "≤ℚ": (4, 0), "<ℚ": (4, 0), "+ℚ": (6, 1), "-ℚ": (6, 1), "*ℚ": (7, 1), "/ℚ": (7, 1), "^ℚ": (8, 2), "^": (8, 2)}
+BINARY = {"⊎": (3, 0), "≡": (4, 0), "≤ℚ": (4, 0), "<ℚ": (4, 0), "+ℚ": (6, 1), "-ℚ": (6, 1), "*ℚ": (7, 1), "/ℚ": (7, 1), "^ℚ": (8, 2), "^": (8, 2)}
 
 
 class Failed(Exception):
     """A fact of the definitions does not hold."""
+
+
+class Unheld(Failed):
+    """A comparison of the definitions does not hold, or no side of an alternative."""
 
 
 def tokens_of(text):
@@ -137,7 +141,7 @@ def texts_below(folder, roots):
 
     def add(name):
         text = (Path(folder) / f"{name}.antt").read_text()
-        for lower in re.findall(r"^use Rattle\.sgp4_model\.specs\.(\w+)\.", text, re.M):
+        for lower in re.findall(r"^use Rattle\.sgp4_model\.specs\.([A-Z]\w*)\.", text, re.M):
             if lower not in texts:
                 add(lower)
         texts[name] = text
@@ -187,7 +191,7 @@ class Specs:
                     self.functions[name] = (list(outer), args.split(), right, dict(opened))
 
     def read_record(self, body, start, outer, opened):
-        name, rest = re.match(r"pub record (\S+)(.*): Type 0 where", body[0].strip()).groups()
+        name, rest = re.match(r"pub record (\S+)(.*): Type \d where", body[0].strip()).groups()
         fields, at = [], 1
         while at < len(body):
             end = at + 1
@@ -303,11 +307,15 @@ class Evaluator:
             return -args[0]
         if name == "abs_ℚ":
             return abs(args[0])
+        return self.value(*self.opened(name, args))
+
+    def opened(self, name, args):
+        """What a function's clause says, with the names that it knows."""
         outer, names, right, opened = self.specs.functions[name]
         params = [param for param, _ in outer] + names
         if len(params) != len(args):
             raise SyntaxError(f"{name} takes {params}")
-        return self.value(parse(right), {"local": dict(zip(params, args)), "opened": opened})
+        return parse(right), {"local": dict(zip(params, args)), "opened": opened}
 
     # ---- facts
 
@@ -321,13 +329,16 @@ class Evaluator:
             raise SyntaxError(f"{name} takes {params}")
         env = {"local": dict(zip(params, args)), "opened": record["opened"]}
         for field, kind in record["fields"]:
+            if kind in SET_TYPES:
+                env["local"][field] = (Quantities(None, {field: None}), field)
+                continue
             if kind in self.specs.records and self.specs.records[kind]["quantities"]:
                 env["local"][field] = self.fresh[field] = self.specs.unknown(kind)
                 continue
             try:
                 self.fact(parse(kind), env)
             except Failed as fault:
-                raise Failed(f"{name}.{field}: {fault}") from None
+                raise type(fault)(f"{name}.{field}: {fault}") from None
 
     def argument(self, term, env):
         """A value, or the place (record, field) of a number that is not known yet."""
@@ -364,8 +375,12 @@ class Evaluator:
             return False
 
     def holds(self, term, env):
-        a, b = both(self.value(term[1], env), self.value(term[2], env))
-        return a <= b if term[0] == "≤ℚ" else a < b
+        """Whether a condition holds of values that are known."""
+        try:
+            self.fact(term, env)
+            return True
+        except Unheld:
+            return False
 
     def fact(self, term, env):
         kind = term[0]
@@ -373,8 +388,12 @@ class Evaluator:
             if self.holds(term[1], env):
                 self.fact(term[2], env)
         elif kind in ("≤ℚ", "<ℚ"):
-            if not self.holds(term, env):
-                raise Failed("the guard fails")
+            a, b = both(self.value(term[1], env), self.value(term[2], env))
+            if not (a <= b if kind == "≤ℚ" else a < b):
+                raise Unheld("the guard fails")
+        elif kind == "⊎":
+            if not any([self.holds(side, env) for side in term[1:]]):
+                raise Unheld("neither holds")
         elif kind == "≡":
             self.give(self.argument(term[1], env), self.value(term[2], env))
         else:
@@ -385,7 +404,10 @@ class Evaluator:
             self.named_fact(name, args, env)
 
     def named_fact(self, name, args, env=None):
-        if name == "IsSinCos":
+        if name == "IsPi":
+            self.give(args[0], mp.mpf(mp.pi))
+            self.facts(name, [self.known(args[0])])
+        elif name == "IsSinCos":
             _, x, sine, cosine = args
             self.give(sine, mp.sin(real(x)))
             self.give(cosine, mp.cos(real(x)))
@@ -405,6 +427,8 @@ class Evaluator:
         elif name == "SolvesKepler" and isinstance(args[4], tuple):
             self.give(args[4], self.kepler_root(args))
             self.facts(name, args[:4] + [self.known(args[4])] + args[5:])
+        elif name in self.specs.functions:
+            self.fact(*self.opened(name, args))
         else:
             self.facts(name, args, env)
 
