@@ -4,8 +4,9 @@
     python3 tools/equations/sky.py --mutate    each digit, sign, operator and name changed in turn: what is not noticed
 
 A case is a station, an instant from 1957 to 2057, an offset of UT1 and a position. Compared are sidereal time, the Sun, the place on
-the ellipsoid, the local axes, range and direction, the numbers of the shadow and of daylight. Needs mpmath. It ends with status 1
-at the first difference. It proves nothing and stands outside the checks of the crates.
+the ellipsoid, the local axes, range and direction, the numbers of the shadow and of daylight. There sine and cosine count as exact
+ones; pairs as they are defined (sums, tolerance, quarter turns) are tried by themselves. Needs mpmath. It ends with status 1 at the
+first difference. It proves nothing and stands outside the checks of the crates.
 """
 import random
 import sys
@@ -23,14 +24,14 @@ SEED, COUNT, LIMIT = 1982, 200, mp.mpf(10) ** -25
 SMALL, TINY = Fraction(1, 10**40), mp.mpf(10) ** -40
 SPECS = Path(__file__).resolve().parents[2] / "crates" / "sgp4_model" / "specs"
 ROOTS = ["Sidereal", "Sun", "StationPlace", "Wgs84", "LocalAxes", "Sight", "Light", "DaySolution"]
-MUTATED = ROOTS + ["Vector", "Degrees", "Angle"]
-# names that stand for each other in changed texts; and lines that are not evaluated here: of quarter turns and sums in Angle.antt,
-# and of the track of daylight, which speaks of every solution
+MUTATED = ROOTS + ["Vector", "Degrees", "Angle", "AngleSums"]
+# names that stand for each other in changed texts; and lines that are not evaluated: the track of daylight speaks of every solution
 NAMES = [("lat", "lon"), ("of_latitude", "of_longitude"), ("a", "b"), ("r", "sun"), ("x", "y", "z"), ("p", "g"), ("at", "dut1"),
          ("anomaly", "twice_anomaly", "longitude", "tilt"), ("sine", "sine_of_twice"), ("equator_km", "earth_radius_km"),
          ("sun_mean_longitude", "sun_mean_anomaly", "obliquity"), ("v", "turn"), ("toward", "place"), ("given", "sharp")]
-UNREAD = ("quadrant", "turned", "reduced", "pub in_range", "pub sine_", "pub cosine_", "pub low : neg_ℚ (ratio", "pub high : y",
-          "EachDaySolution", "day_track", "ticks", "yes", "no", "grazes", "sinks")
+# quarter turns, and how many eighths of a turn lie beyond them
+TURNS = [(0, "0.3"), (1, "-0.7"), (2, "1"), (3, "-1"), (-1, "0.9"), (-2, "0"), (-3, "-0.5"), (-4, "0.8"), (-6, "-0.2"), (11, "-0.99"), (1998, "1")]
+UNREAD = ("EachDaySolution", "day_track", "ticks", "yes", "no", "grazes", "sinks")
 
 
 def decimal(value, places):
@@ -156,17 +157,47 @@ class Comparison:
             self.is_said(maker, "IsDaylight", [p], p > 0)
             self.is_said(maker, "IsNight", [p], p < 0)
         self.grazing(maker)
+        self.angles(maker)
         for toward, outcome in [(vector([zero] * 3), False), (vector([zero, zero, Fraction(1)]), True)]:
             args = [Quantities("Pair", pair(0)), Quantities("Pair", pair(0)), toward, self.fresh("range"), self.specs.unknown("SightRecord")]
             self.is_said(maker, "IsDirection", args, outcome)
+
+    def angles(self, maker):
+        """Pairs as they are defined: sums at the angle less its quarter turns, to a tolerance, turned back."""
+        for sign in (1, -1):
+            self.field(maker, "IsSinCos", "in_range", dict(pi=mp.mpf(mp.pi), x=sign * mp.pi / 4, quarters=Fraction(0)), True)
+        for quarters, eighths in TURNS:
+            y = reference.number(eighths) * (mp.pi / 4 - real(SMALL))
+            sine = mp.fsum((-1) ** j * y ** (2 * j + 1) / mp.factorial(2 * j + 1) for j in range(10))
+            cosine = mp.fsum((-1) ** j * y ** (2 * j) / mp.factorial(2 * j) for j in range(10))
+            turned = mp.mpc(cosine, sine) * mp.mpc(0, 1) ** quarters
+            held = dict(pi=mp.mpf(mp.pi), x=quarters * mp.pi / 2 + y, s=turned.imag, c=turned.real, quarters=Fraction(quarters))
+            for far, outcome in [(0, True), (1, False)]:
+                off = mp.mpf(2) ** -60 + (2 * far - 1) * real(SMALL)
+                for sign in (1, -1):
+                    inner = Quantities("Pair", dict(sine=sine + sign * off, cosine=cosine + sign * off))
+                    for field in ("sine_near", "cosine_near"):
+                        self.field(maker, "IsSinCos", field, dict(held, inner=inner), outcome)
+            held["inner"] = Quantities("Pair", dict(sine=sine, cosine=cosine))
+            for field in ("in_range", "sine_is", "cosine_is"):
+                self.field(maker, "IsSinCos", field, held, True)
+            self.field(maker, "IsSinCos", "sine_is", dict(held, s=turned.imag + 1), False)
+            self.field(maker, "IsSinCos", "cosine_is", dict(held, c=turned.real + 1), False)
+            for sign in (1, -1):
+                past = quarters * mp.pi / 2 + sign * (mp.pi / 4 + real(SMALL))
+                self.field(maker, "IsSinCos", "in_range", dict(held, x=past), False)
+
+    @staticmethod
+    def field(maker, record, field, held, outcome):
+        if maker.only(record, field, held) != outcome:
+            raise Failed(f"{record}.{field} of {[mp.nstr(real(x), 15) for x in held.values() if not isinstance(x, Quantities)]}")
 
     def grazing(self, maker):
         for record, field, bound in [("GrazesShadow", "given", Fraction(1, 1000)), ("GrazesShadow", "sharp", Fraction(1, 2**13)),
                                      ("GrazesHorizon", "given", Fraction(1, 1000)), ("GrazesHorizon", "sharp", Fraction(1, 2**23))]:
             for value, outcome in [(bound, True), (-bound, True), (bound + SMALL, False), (-bound - SMALL, False)]:
                 held = {"v": Quantities("ShadowRecord", dict(p=Fraction(9), g=value)), "product": value}
-                if maker.only(record, field, held) != outcome:
-                    raise Failed(f"{record}.{field} at {value}")
+                self.field(maker, record, field, held, outcome)
         for name, of_bound in [("GrazesShadow", lambda g: Quantities("ShadowRecord", dict(p=Fraction(9), g=g))), ("GrazesHorizon", lambda g: g)]:
             bound = Fraction(1, 2**13) if name == "GrazesShadow" else Fraction(1, 2**23)
             self.is_said(maker, name, [of_bound(bound)], True)
@@ -175,8 +206,9 @@ class Comparison:
 
 def run(texts, cases):
     comparison = Comparison(texts)
+    comparison.case(cases[0])
     comparison.edges()
-    for given in cases:
+    for given in cases[1:]:
         comparison.case(given)
     return comparison
 

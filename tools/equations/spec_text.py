@@ -12,9 +12,10 @@ from pathlib import Path
 
 import mpmath as mp
 
-TOKEN = re.compile(r"\s+|--[^\n]*\n|([A-Za-z_ℚℕℤ][\w₀-₉'ℚℕℤ]*|\d+|[-+*/^]ℚ|[≤<]ℚ|≡|→|×|¬|[-+*/^(){}:;,.=λ∷|⊎])")
+TOKEN = re.compile(r"\s+|--[^\n]*\n|([A-Za-z_ℚℕℤ][\w₀-₉'ℚℕℤ]*|\d+|[-+*/^]ℚ|[≤<]ℚ|≡|→|×|¬|[-+*/^%(){}:;,.=λ∷|⊎])")
 SET_TYPES = {"ℚ", "ℕ", "ℤ"}
-BINARY = {"⊎": (3, 0), "≡": (4, 0), "≤ℚ": (4, 0), "<ℚ": (4, 0), "+ℚ": (6, 1), "-ℚ": (6, 1), "*ℚ": (7, 1), "/ℚ": (7, 1), "^ℚ": (8, 2), "^": (8, 2)}
+BINARY = {"⊎": (3, 0), "≡": (4, 0), "≤ℚ": (4, 0), "<ℚ": (4, 0), "+ℚ": (6, 1), "-ℚ": (6, 1), "*ℚ": (7, 1), "/ℚ": (7, 1), "^ℚ": (8, 2), "^": (8, 2),
+          "-": (6, 1), "*": (7, 1), "%": (7, 1)}
 
 
 class Failed(Exception):
@@ -39,7 +40,7 @@ def tokens_of(text):
 
 
 class Parser:
-    """Terms: ('num', n), ('name', path), ('app', f, args), (operator, a, b), ('arrow', a, b), ('record', fields)."""
+    """Terms: ('num', n), ('name', path), ('app', f, args), (operator, a, b), ('arrow', a, b), ('record', fields), ('field', a, name)."""
 
     def __init__(self, tokens):
         self.tokens, self.at = tokens, 0
@@ -81,6 +82,9 @@ class Parser:
         if token == "(":
             inner = self.term()
             self.take(")")
+            while self.peek() == ".":
+                self.take()
+                inner = ("field", inner, self.take())
             return inner
         if token.isdigit():
             return ("num", int(token))
@@ -185,10 +189,11 @@ class Specs:
             elif re.match(r"(abbrev |unfoldable )?pub [\w◌]", head):
                 self.signature = head
             elif " = " in head or head.endswith("="):
-                clause = re.match(r"(\S+)((?: \w+)*) =(.*)", "\n".join(body).strip(), re.S)
+                clause = re.match(r"(\S+)((?: (?:\w+|\([\w ()]*\)))*) =(.*)", "\n".join(body).strip(), re.S)
                 if clause:
                     name, args, right = clause.groups()
-                    self.functions[name] = (list(outer), args.split(), right, dict(opened))
+                    patterns = [("name", (param,)) for param, _ in outer] + (parse(f"f {args}")[2] if args else [])
+                    self.functions.setdefault(name, []).append((patterns, right, dict(opened)))
 
     def read_record(self, body, start, outer, opened):
         name, rest = re.match(r"pub record (\S+)(.*): Type \d where", body[0].strip()).groups()
@@ -224,6 +229,18 @@ def both(a, b):
 
 def real(a):
     return mp.mpf(a.numerator) / a.denominator if isinstance(a, Fraction) else mp.mpf(a)
+
+
+def matches(pattern, value, local):
+    """Whether a value is of a clause's pattern; its names are added to the local ones."""
+    head = pattern[1][1][0] if pattern[0] == "app" else pattern[1][0]
+    if head == "zero":
+        return value == 0
+    if head in ("suc", "pos", "negsuc"):
+        inner = {"suc": lambda: value - 1, "pos": lambda: value, "negsuc": lambda: -value - 1}[head]()
+        return inner >= 0 and matches(pattern[2][0], inner, local)
+    local[head] = value
+    return True
 
 
 class Evaluator:
@@ -267,13 +284,17 @@ class Evaluator:
             return self.defined(term[1][1][0], [self.value(arg, env) for arg in term[2]], env)
         if kind == "record":
             return Quantities(None, {name: self.value(inner, env) for name, inner in term[1].items()})
+        if kind == "field":
+            return self.value(term[1], env).fields[term[2]]
         a, b = both(self.value(term[1], env), self.value(term[2], env))
         if kind == "+ℚ":
             return a + b
-        if kind == "-ℚ":
+        if kind in ("-ℚ", "-"):
             return a - b
-        if kind == "*ℚ":
+        if kind in ("*ℚ", "*"):
             return a * b
+        if kind == "%":
+            return a % b
         if kind == "/ℚ":
             words, constant = self.words(term[2], env)
             if not constant and words not in self.divisors:
@@ -303,6 +324,8 @@ class Evaluator:
             return Fraction(args[0]) / args[1]
         if name in ("pos", "of_int"):
             return args[0]
+        if name == "suc":
+            return args[0] + 1
         if name == "neg_ℚ":
             return -args[0]
         if name == "abs_ℚ":
@@ -311,11 +334,13 @@ class Evaluator:
 
     def opened(self, name, args):
         """What a function's clause says, with the names that it knows."""
-        outer, names, right, opened = self.specs.functions[name]
-        params = [param for param, _ in outer] + names
-        if len(params) != len(args):
-            raise SyntaxError(f"{name} takes {params}")
-        return parse(right), {"local": dict(zip(params, args)), "opened": opened}
+        for patterns, right, opened in self.specs.functions[name]:
+            if len(patterns) != len(args):
+                raise SyntaxError(f"{name} takes {patterns}")
+            local = {}
+            if all([matches(pattern, arg, local) for pattern, arg in zip(patterns, args)]):
+                return parse(right), {"local": local, "opened": opened}
+        raise Failed(f"{name} has no clause for {args}")
 
     # ---- facts
 
