@@ -5,7 +5,7 @@ The two definitions are read from the text of the file, so that a slip there can
 angles of a fixed seed, within an eighth of a turn of 0, each sum is compared with mpmath's value to 60 digits. The
 greatest differences are those of the terms that the sums leave out: y^21/21! and y^20/20!.
 
-Run: python3 tools/angles/compare_sums.py   (needs mpmath; outside the gate)
+Run: python3 tools/angles/compare_sums.py   (needs mpmath)
 """
 import random
 import re

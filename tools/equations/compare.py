@@ -3,10 +3,9 @@
     python3 tools/equations/compare.py             200 element sets of seed 20260, each quantity to a relative 1e-30
     python3 tools/equations/compare.py --mutate    each digit, sign, operator and name changed in turn: what is not noticed
 
-Needs mpmath. It proves nothing and stands outside the checks of the crates.
+Needs mpmath. It ends with status 1 at the first difference. It proves nothing and stands outside the checks of the crates.
 """
 import random
-import re
 import sys
 from fractions import Fraction
 from functools import lru_cache
@@ -14,14 +13,22 @@ from pathlib import Path
 
 import mpmath as mp
 
+import mutants
 import reference
-from spec_text import Evaluator, Failed, Quantities, Specs, real, texts_below
+from edges import Edges
+from spec_text import Evaluator, Failed, Quantities, Specs, Unheld, real, texts_below
 
 mp.mp.dps = 60
 SEED, COUNT, LIMIT = 20260, 200, mp.mpf(10) ** -30
 TINY = mp.mpf(10) ** -40
 SPECS = Path(__file__).resolve().parents[2] / "crates" / "sgp4_model" / "specs"
-ROOTS = ["Constants", "MeanElements", "Position", "EpochTime"]
+ROOTS = ["Constants", "MeanElements", "Position", "EpochTime", "Simple", "Sinking"]
+MUTATED = ["Root", "Wgs72", "Degrees", "MeanMotion", "EpochAngles", "Density", "Drag", "Rates", "Coefficients", "HigherDrag", "Constants",
+           "MeanElements", "Kepler", "Position", "EpochTime", "Simple", "Sinking"]
+# names of facts that stand for each other in changed texts
+NAMES = [("IsSimpleMotion", "IsFullMotion"), ("IsFullHigherDrag", "IsNoHigherDrag"), ("near_circle", "least_ecc", "least_distance")]
+# the guards of the definitions, by the reference's names
+GUARDS = {"IsLongPeriod.guarded": "eccentricity", "IsShortPeriodPreliminaries.guarded": "semilatus rectum", "IsPosition.guarded": "distance"}
 ELEMENTS = ["motion", "ecc", "incl", "node", "argp", "anomaly", "bstar"]
 
 
@@ -30,9 +37,10 @@ def decimal(value, places):
 
 
 def element_set(rng, number):
-    """An element set of a near-Earth satellite. Some stand on the edges of the branches, some below the density's base."""
+    """An element set of a near-Earth satellite, of the simple form or the full one. Some stand on the edges of the branches, some
+    below the density's base."""
     low = number % 20 == 7
-    perigee = rng.uniform(20, 76) if low else rng.choice([rng.uniform(220, 600), rng.uniform(300, 3500)])
+    perigee = rng.uniform(20, 76) if low else rng.choice([rng.uniform(160, 280), rng.uniform(220, 600), rng.uniform(300, 3500)])
     ecc = [rng.uniform(0, 0.2), rng.uniform(0, 0.003), 0.0, 0.0001, 0.0001001, 0.0000999][rng.choice([0, 0, 0, 1, 1, 2, 3, 4, 5])]
     ecc = rng.uniform(0.02, 0.2) if low else ecc
     axis = (1 + perigee / 6378.135) / (1 - ecc)
@@ -64,6 +72,24 @@ def flat(prefix, value):
     return {prefix: value}
 
 
+def answer(maker, name, args):
+    """None where a record of facts holds, else the field at which a comparison fails."""
+    try:
+        maker.facts(name, args)
+        return None
+    except Unheld as fault:
+        return str(fault).split(": ")[-2]
+
+
+def holds(maker, name, args):
+    """Whether a fact holds, by its name."""
+    try:
+        maker.named_fact(name, args)
+        return True
+    except Failed:
+        return False
+
+
 @lru_cache(maxsize=None)
 def satellite_of(numbers):
     satellite = reference.Satellite(*(real(number) for number in numbers))
@@ -81,7 +107,9 @@ class Comparison:
         if set(ours) != set(theirs):
             raise Failed(f"fields differ: {set(ours) ^ set(theirs)}")
         for name, value in ours.items():
-            if value is None:
+            if value is None and theirs[name] is None:
+                continue
+            if value is None or theirs[name] is None:
                 raise Failed(f"{name} has no value")
             a, b = real(value), real(theirs[name])
             size = max(abs(a), abs(b))
@@ -105,41 +133,46 @@ class Comparison:
         motion = maker.fresh["quantities"].fields["motion"]
         self.same("period", maker.defined("period_of", [mp.mpf(mp.pi), motion], None), satellite.period_minutes())
         self.same("perigee", maker.defined("perigee_of", [motion], None), satellite.perigee_km())
+        self.same("perigee", maker.defined("perigee_km", [kept], None), satellite.perigee_km())
+        simple = satellite.isimp
+        for name, about, outcome in [("IsSimpleMotion", motion, simple), ("IsFullMotion", motion, not simple), ("IsSimple", kept, simple)]:
+            if holds(maker, name, [about]) != outcome:
+                raise Failed(name)
+        self.count("sets of the simple form" if simple else "sets of the full form")
         return kept, satellite
 
     def at_time(self, kept, satellite, minutes):
         maker = Evaluator(self.specs, LIMIT)
         mean = self.specs.unknown("MeanRecord")
         secular, their_mean, periodic, vector = satellite.at(real(minutes))
-        guarded = True
-        try:
-            maker.facts("IsMean", [kept, mp.mpf(mp.pi), minutes, mean])
-        except Failed as fault:
-            if "guard" not in str(fault):
-                raise
-            guarded = False
+        guards = satellite.guards(secular, their_mean)
+        found = answer(maker, "IsMean", [kept, mp.mpf(mp.pi), minutes, mean])
         self.same("secular", maker.fresh["secular"], secular)
         self.same("mean", mean, their_mean)
-        if guarded != (mp.mpf("-0.001") <= secular["ecc"] < 1):
-            raise Failed("the guard on the eccentricity")
-        if not guarded:
-            self.count("refused by the guard on the eccentricity")
-            return
-        self.count("mean elements raised" if secular["ecc"] < mp.mpf(10) ** -6 else "mean elements")
-        self.place(kept, mean, periodic, vector)
+        local = {"secular": maker.fresh["secular"], "m": mean}
+        for field, guard in [("guarded", "ecc"), ("axis_guarded", "axis")]:
+            if maker.only("IsMean", field, local) != guards[guard]:
+                raise Failed(f"IsMean.{field}")
+        if (found is None) != all(guards.values()):
+            raise Failed(f"the mean elements: {found}")
+        for guard in guards:
+            if not guards[guard]:
+                self.count(f"mean elements refused by their {guard}")
+        if found is None:
+            self.count("mean elements raised" if secular["ecc"] < mp.mpf(10) ** -6 else "mean elements")
+            self.place(kept, mean, periodic, vector)
 
     def place(self, kept, mean, periodic, vector):
         maker = Evaluator(self.specs, LIMIT)
         ours, root = self.specs.unknown("Vector"), Quantities("Root", {"root": None})
-        try:
-            maker.facts("IsPosition", [kept, mean, mp.mpf(mp.pi), (root, "root"), ours])
-        except Failed as fault:
-            if "guard" not in str(fault) or periodic is not None:
-                raise
-            self.count(f"refused by {str(fault).split(':')[-2].strip()}")
+        found = answer(maker, "IsPosition", [kept, mean, mp.mpf(mp.pi), (root, "root"), ours])
+        if found is not None:
+            if GUARDS.get(found) != periodic:
+                raise Failed(f"{found} fails, and by the reference {periodic if vector is None else 'nothing'}")
+            self.count(f"positions refused by their {periodic}")
             return
-        if periodic is None:
-            raise Failed("the reference refuses the position")
+        if vector is None:
+            raise Failed(f"the reference refuses the position by its {periodic}")
         self.same("periodic", maker.fresh["periodic"], periodic)
         self.same("position", ours, vector)
         self.count("positions")
@@ -148,71 +181,10 @@ class Comparison:
         numbers = [real(values[name]) for name in ("am", "em", "ml", "wm", "om")]
         self.place(kept, Quantities("MeanRecord", dict(values)), *satellite.position(*numbers))
 
-    def edges(self):
-        """The guards and tolerances at their ends, and the minutes from an epoch."""
-        small, part, maker = Fraction(1, 10**30), Fraction(1, 2**60), Evaluator(self.specs, LIMIT)
-
-        def wanted(found, outcome, what):
-            if found != outcome:
-                raise Failed(what)
-
-        def tried(name, args):
-            try:
-                maker.facts(name, args)
-                return True
-            except Failed:
-                return False
-
-        def field_of(record, field, kind, name, value, outcome, other):
-            """A guard at a value of one quantity, while all others have a value at which it would answer otherwise."""
-            held = self.specs.unknown(kind)
-            held.fields = {key: other if inner is None else inner for key, inner in held.fields.items()}
-            held.fields.update(value if isinstance(value, dict) else {name: value})
-            local = {"q": held, "periodic": held, "secular": held}
-            wanted(maker.only(record, field, local), outcome, f"{record}.{field} at {value}")
-
-        for ecc, outcome in [(Fraction(-1, 1000), True), (Fraction(-1, 1000) - small, False), (1 - small, True), (Fraction(1), False)]:
-            wanted(tried("IsEccentricityGuarded", [ecc]), outcome, "guard on the eccentricity")
-            field_of("IsMean", "guarded", "SecularRecord", "ecc", ecc, outcome, Fraction(2) if outcome else Fraction(0))
-        for sign in (1, -1):
-            for turn in (1, -1):
-                edge = {"ax": sign * Fraction(3, 4), "ay": turn * Fraction(1, 4)}
-                field_of("IsLongPeriod", "guarded", "PeriodicRecord", None, edge, False, Fraction(0))
-                edge["ay"] *= 1 - small
-                field_of("IsLongPeriod", "guarded", "PeriodicRecord", None, edge, True, Fraction(9))
-        for name, record, field, value in [("pl", "IsShortPeriodPreliminaries", "guarded", small), ("mrt", "IsPosition", "guarded", Fraction(1))]:
-            field_of(record, field, "PeriodicRecord", name, value, True, Fraction(-9))
-            field_of(record, field, "PeriodicRecord", name, value - small, False, Fraction(9))
-        limit, raised = Fraction(1, 10**4), Fraction(1, 10**6)
-        around = dict(e=limit, c3=Fraction(9), xmcof=Fraction(9), eta=Fraction(0), ecc=raised, em=Fraction(9))
-        record_of = {name: Quantities(None, around) for name in "zmdgrfs"}
-        for record, first, second in [("IsMeanOf", "em_is_else", "em_is"), ("IsPerigeeDragCoefficient", "c3_is", "c3_is_else"),
-                                      ("IsRemainingCoefficients", "xmcof_is", "xmcof_is_else")]:
-            wanted(maker.only(record, first, record_of), True, f"{record}.{first} at the limit")
-            wanted(maker.only(record, second, record_of), False, f"{record}.{second} at the limit")
-        wanted(maker.only("IsRemainingCoefficients", "e_eta_divides", record_of), True, "divisor at the limit")
-        around.update(e=Fraction(0), eta=Fraction(1))
-        wanted(maker.only("IsRemainingCoefficients", "e_eta_divides", record_of), True, "divisor on a circle")
-        rest = Quantities("Pair", {"sine": Fraction(0), "cosine": Fraction(0)})
-        for angle, outcome in [(part, True), (-part, True), (part + small, False), (-part - small, False)]:
-            local = dict(u=Fraction(5), ax=Fraction(3), ay=Fraction(4), angle=5 + angle, turn=rest)
-            wanted(maker.only("SolvesKepler", "residual", local), outcome, "Kepler's tolerance")
-        one, two, third = Fraction(1), Fraction(2), part / 3
-        near, far = 1 - Fraction(1, 10**6), 1 + Fraction(1, 10**6)
-        for x, r, outcome in [(4 + part, two, True), (4 - part, two, True), (4 + part + small, two, False), (4 - part - small, two, False),
-                              (Fraction(0), Fraction(0), True), (4 * one, -two, False), (-part, Fraction(0), False)]:
-            wanted(tried("IsSqrt", [x, r]), outcome, f"root {r} of {x}")
-        for x, r, outcome in [(8 * one, 4 * one, True), (one, 1 + third * near, True), (one, 1 - third * near, True), (one, 1 + third * far, False),
-                              (one, 1 - third * far, False), (Fraction(0), part, False), (part, Fraction(0), False), (-8 * one, 4 * one, False)]:
-            wanted(tried("IsCbrt2", [x, r]), outcome, f"power {r} of {x}")
-        wanted([name for name, _ in self.specs.records["IsSinCos"]["params"]], ["pi", "x", "s", "c"], "sine before cosine")
-        epoch = Quantities("SetRecord", dict(zip(ELEMENTS, [None] * 7), epoch=Fraction(3 * 10**9)))
-        wanted(maker.defined("minutes_since_epoch", [epoch, Fraction(123)], None), 2, "minutes from the epoch")
-
 
 def run(texts, sets, rng, per_set=3):
     comparison = Comparison(texts)
-    comparison.edges()
+    Edges(comparison.specs, LIMIT).all()
     for values in sets:
         kept, satellite = comparison.constants(values)
         for minutes in times(rng):
@@ -222,68 +194,42 @@ def run(texts, sets, rng, per_set=3):
     return comparison
 
 
-# ---- mutants
-
-SWAPS = {"+ℚ": ["-ℚ"], "-ℚ": ["+ℚ"], "*ℚ": ["/ℚ", "+ℚ"], "/ℚ": ["*ℚ"], "≤ℚ": ["<ℚ"], "<ℚ": ["≤ℚ"], "sine": ["cosine"], "cosine": ["sine"],
-         "neg_ℚ": [""], "abs_ℚ": [""], "one_ℚ": ["zero_ℚ"], "zero_ℚ": ["one_ℚ"], "whole": ["decimal 1"]}
-WORD = re.compile(r"[A-Za-z_ℚ][\w'ℚ]*|\d+|[-+*/^]ℚ|[≤<]ℚ|→")
-
-
-def mutants(texts):
-    """Texts with one token of a formula changed, and where."""
-    for name in ["Root", "Wgs72", "Degrees", "MeanMotion", "EpochAngles", "Density", "Drag", "Rates", "Coefficients", "HigherDrag", "Constants", "MeanElements", "Kepler", "Position", "EpochTime"]:
-        lines, opened, at = texts[name].split("\n"), [], 0
-        for number, line in enumerate(lines):
-            found = re.match(r"\s*open \w+ use \{(.*)\}", line)
-            opened = [] if line.startswith("module") else opened + (found.group(1).split(", ") if found else [])
-            if found or not line.strip() or line.strip().startswith(("--", "use ", "module", "abbrev", "pub record", "record {", "}")):
-                continue
-            left = re.match(r"\s*(pub \S+ :|\w[\w ]* =(?= )|\w+ =$)", line)
-            if re.match(r"\s*pub \w+ : \w+$", line) or line.startswith("IsPairOfDegrees"):
-                continue
-            for token in WORD.finditer(line, left.end() if left else 0):
-                word = token.group()
-                changed = SWAPS.get(word, [])
-                if word.isdigit():
-                    changed = [str(int(word) + 1)] + ([str(int(word) - 1)] if int(word) > 1 else [])
-                if word in opened:
-                    place = opened.index(word)
-                    changed = [opened[(place + step) % len(opened)] for step in (1, -1, 2)]
-                for new in changed:
-                    text = lines[:number] + [line[: token.start()] + new + line[token.end() :]] + lines[number + 1 :]
-                    yield f"{name}:{number + 1}: {word} -> {new or 'nothing'} in{line[: token.start()]}[{word}]{line[token.end():]}", dict(texts, **{name: "\n".join(text)})
-
-
 def sample(sets):
-    """A few sets that reach each branch: the first with much drag, the last below the density's base."""
+    """A few sets that reach each branch: the first with much drag, the last two of the simple form, one below the density's base."""
     plain = [s for s in sets if s["incl"] not in (0, 90)]
-    drag = max((s for s in plain if Fraction(1, 10) > s["ecc"] > Fraction(1, 100)), key=lambda s: s["motion"] * (s["bstar"] > Fraction(1, 10000)))
+    full = [s for s in plain if not satellite_of(tuple(s[name] for name in ELEMENTS)).isimp]
+    drag = max((s for s in full if Fraction(1, 10) > s["ecc"] > Fraction(1, 100)), key=lambda s: s["motion"] * (s["bstar"] > Fraction(1, 10000)))
     wanted = [lambda s: s["ecc"] == 0 and s["bstar"] > 0, lambda s: s["ecc"] == Fraction(1, 10000) and s["bstar"],
               lambda s: Fraction(1, 10000) < s["ecc"] < Fraction(2, 10000) and s["bstar"]]
-    return [drag] + [next(s for s in plain if test(s)) for test in wanted] + [sets[7]]
+    simple = next(s for s in plain if s not in full and s["ecc"] > Fraction(1, 100) and s["bstar"] > Fraction(1, 10000))
+    return [drag] + [next(s for s in full if test(s)) for test in wanted] + [simple, sets[7]]
+
+
+def is_noticed(texts, few):
+    try:
+        run(texts, few, random.Random(1), 10)
+        return False
+    except (Failed, SyntaxError, ArithmeticError, ValueError, TypeError, AttributeError, KeyError, IndexError):
+        return True
 
 
 def main():
     texts = texts_below(SPECS, ROOTS)
     rng = random.Random(SEED)
     sets = [element_set(rng, number) for number in range(COUNT)]
-    result = run(texts, sets, rng)
+    try:
+        result = run(texts, sets, rng)
+    except Failed as fault:
+        print(f"they differ: {fault}")
+        return 1
     print(f"{COUNT} element sets of seed {SEED}: {len(result.fields)} quantities agree, worst relative difference {mp.nstr(result.worst, 3)}")
-    for outcome, count in sorted(result.outcomes.items()):
-        print(f"  {count:5} {outcome}")
-    if "--mutate" not in sys.argv:
-        return
-    few, tried, left = sample(sets), 0, []
-    for where, changed in mutants(texts):
-        tried += 1
-        try:
-            run(changed, few, random.Random(1), 10)
-            left.append(where)
-            print("not noticed:", where, flush=True)
-        except (Failed, SyntaxError, ArithmeticError, ValueError, TypeError, AttributeError, KeyError, IndexError):
-            pass
-    print(f"{tried} changes, {len(left)} not noticed")
+    for outcome, found in sorted(result.outcomes.items()):
+        print(f"  {found:5} {outcome}")
+    if "--mutate" in sys.argv:
+        few = sample(sets)
+        mutants.judge(mutants.mutants(texts, MUTATED, NAMES, ("IsPairOfDegrees",)), lambda changed: is_noticed(changed, few))
+    return 0
 
 
 if __name__ == "__main__":
-    main()
+    sys.exit(main())

@@ -1,5 +1,6 @@
 """Near-Earth SGP4 with the constants of WGS-72 as printed, written from Spacetrack Report No. 3 and AIAA 2006-6753 in the
-arrangement of the published program (sgp4init, sgp4), in high precision. It shares nothing with the definitions."""
+arrangement of the published program (sgp4init, sgp4), in high precision. It shares nothing with the definitions; the values of
+the guards on eccentricity, axis and distance are those that docs/EQUATIONS.md names."""
 import mpmath as mp
 
 DAY_MINUTES = 1440
@@ -17,6 +18,7 @@ class Satellite:
         self.inclo, self.nodeo, self.argpo, self.mo = number(inclo) * deg, number(nodeo) * deg, number(argpo) * deg, number(mo) * deg
         self.no_kozai = number(no_kozai) / (DAY_MINUTES / (2 * mp.pi))
         self.un_kozai()
+        self.isimp = self.perigee_km() < 220
         self.init(j4)
 
     def un_kozai(self):
@@ -69,7 +71,9 @@ class Satellite:
                 + mp.mpf("0.75") * self.x1mth2 * (2 * etasq - eeta * (1 + etasq)) * mp.cos(2 * self.argpo)
             )
         )
-        self.cc5 = 2 * coef1 * self.ao * self.omeosq * (1 + mp.mpf("2.75") * (etasq + eeta) + eeta * etasq)
+        self.cc5 = mp.mpf(0)
+        if not self.isimp:
+            self.cc5 = 2 * coef1 * self.ao * self.omeosq * (1 + mp.mpf("2.75") * (etasq + eeta) + eeta * etasq)
         cosio4 = self.cosio2 * self.cosio2
         self.temp1 = mp.mpf("1.5") * self.j2 * pinvsq * self.no
         self.temp2 = self.temp1 * self.j2 * pinvsq / 2
@@ -85,9 +89,10 @@ class Satellite:
         )
         xhdot1 = -self.temp1 * self.cosio
         self.nodedot = xhdot1 + (self.temp2 * (4 - 19 * self.cosio2) / 2 + 2 * self.temp3 * (3 - 7 * self.cosio2)) * self.cosio
-        self.omgcof = self.bstar * self.cc3 * mp.cos(self.argpo)
-        self.xmcof = mp.mpf(0)
-        if self.ecco > mp.mpf(1) / 10000:
+        self.omgcof = self.xmcof = mp.mpf(0)
+        if not self.isimp:
+            self.omgcof = self.bstar * self.cc3 * mp.cos(self.argpo)
+        if not self.isimp and self.ecco > mp.mpf(1) / 10000:
             self.xmcof = -(mp.mpf(2) / 3) * coef * self.bstar / eeta
         self.nodecf = mp.mpf("3.5") * self.omeosq * xhdot1 * self.cc1
         self.t2cof = mp.mpf("1.5") * self.cc1
@@ -95,6 +100,14 @@ class Satellite:
         self.aycof = -self.j3oj2 / 2 * self.sinio
         self.delmo = (1 + eta * mp.cos(self.mo)) ** 3
         self.sinmao = mp.sin(self.mo)
+        self.higher(ss, tsi)
+
+    def higher(self, ss, tsi):
+        """The drag terms of higher order, which the simple form has not."""
+        self.temp = None
+        self.d2 = self.d3 = self.d4 = self.t3cof = self.t4cof = self.t5cof = mp.mpf(0)
+        if self.isimp:
+            return
         cc1sq = self.cc1 * self.cc1
         self.d2 = 4 * self.ao * tsi * cc1sq
         self.temp = self.d2 * tsi * self.cc1 / 3
@@ -144,6 +157,11 @@ class Satellite:
     def perigee_km(self):
         return (self.rp - 1) * self.re
 
+    @staticmethod
+    def guards(secular, mean):
+        """Whether the eccentricity, before it is raised, and the semimajor axis are taken."""
+        return dict(ecc=mp.mpf("-0.001") <= secular["ecc"] < 1, axis=mean["am"] >= 1)
+
     def at(self, t):
         """The quantities at t minutes from the epoch; None in place of the position where a guard fails."""
         t = mp.mpf(t)
@@ -151,42 +169,51 @@ class Satellite:
         xmdf = self.mo + self.mdot * t
         argpdf = self.argpo + self.argpdot * t
         nodem = self.nodeo + self.nodedot * t + self.nodecf * t2
-        delomg = self.omgcof * t
-        delm = self.xmcof * ((1 + self.eta * mp.cos(xmdf)) ** 3 - self.delmo)
-        mm = xmdf + (delomg + delm)
-        argpm = argpdf - (delomg + delm)
-        t3 = t2 * t
-        t4 = t3 * t
-        tempa = 1 - self.cc1 * t - self.d2 * t2 - self.d3 * t3 - self.d4 * t4
-        tempe = self.bstar * self.cc4 * t + self.bstar * self.cc5 * (mp.sin(mm) - self.sinmao)
-        templ = self.t2cof * t2 + self.t3cof * t3 + t4 * (self.t4cof + t * self.t5cof)
+        tempa = 1 - self.cc1 * t
+        tempe = self.bstar * self.cc4 * t
+        templ = self.t2cof * t2
+        mm, argpm, change = xmdf, argpdf, mp.mpf(0)
+        if not self.isimp:
+            delomg = self.omgcof * t
+            delm = self.xmcof * ((1 + self.eta * mp.cos(xmdf)) ** 3 - self.delmo)
+            change = delomg + delm
+            mm = xmdf + change
+            argpm = argpdf - change
+            t3 = t2 * t
+            t4 = t3 * t
+            tempa = tempa - self.d2 * t2 - self.d3 * t3 - self.d4 * t4
+            tempe = tempe + self.bstar * self.cc5 * (mp.sin(mm) - self.sinmao)
+            templ = templ + self.t3cof * t3 + t4 * (self.t4cof + t * self.t5cof)
         am = mp.power(self.xke / self.no, mp.mpf(2) / 3) * tempa * tempa
         ecc = self.ecco - tempe
         em = ecc if ecc >= mp.mpf(10) ** -6 else mp.mpf(10) ** -6
         xl = mm + self.no * templ
         secular = dict(
-            mf=xmdf, wf=argpdf, om=nodem, of_mf=pair(xmdf), g=delomg + delm, mm=mm, wm=argpm, tempa=tempa, of_mm=pair(mm), tempe=tempe,
+            mf=xmdf, wf=argpdf, om=nodem, of_mf=pair(xmdf), g=change, mm=mm, wm=argpm, tempa=tempa, of_mm=pair(mm), tempe=tempe,
             templ=templ, ecc=ecc,
         )
         mean = dict(am=am, em=em, ml=xl, wm=argpm, om=nodem)
-        if ecc >= 1 or ecc < mp.mpf("-0.001"):
+        if not all(self.guards(secular, mean).values()):
             return secular, mean, None, None
         periodic, vector = self.position(am, em, xl, argpm, nodem)
         return secular, mean, periodic, vector
 
     def position(self, am, em, mp_, argpp, nodep):
+        """The periodic quantities and the position; where a guard fails its name and None."""
         axnl = em * mp.cos(argpp)
         temp = 1 / (am * (1 - em * em))
         aynl = em * mp.sin(argpp) + temp * self.aycof
         u = mp_ + argpp + temp * self.xlcof * axnl
+        if mp.fabs(axnl) + mp.fabs(aynl) >= 1:
+            return "eccentricity", None
         eo1 = self.kepler(u, axnl, aynl)
         sineo1, coseo1 = mp.sin(eo1), mp.cos(eo1)
         ecose = axnl * coseo1 + aynl * sineo1
         esine = axnl * sineo1 - aynl * coseo1
         el2 = axnl * axnl + aynl * aynl
         pl = am * (1 - el2)
-        if mp.fabs(axnl) + mp.fabs(aynl) >= 1 or pl <= 0:
-            return None, None
+        if pl <= 0:
+            return "semilatus rectum", None
         rl = am * (1 - ecose)
         betal = mp.sqrt(1 - el2)
         part = esine / (1 + betal)
@@ -213,8 +240,8 @@ class Satellite:
             su=sinu, cu=cosu, s2=sin2u, c2=cos2u, k1=temp1, k2=temp2, mrt=mrt, du=delsu, xnode=xnode, xinc=xinc, of_du=pair(delsu),
             sw=sinsu, cw=cossu, of_xnode=pair(xnode), of_xinc=pair(xinc),
         )
-        if mrt < 1:
-            return None, None
+        if mrt < mp.mpf("1.02"):
+            return "distance", None
         return periodic, dict(x=mrt * ux, y=mrt * uy, z=mrt * uz)
 
     def kepler(self, u, axnl, aynl):

@@ -1,8 +1,8 @@
 """Reads the definitions of crates/sgp4_model/specs as they stand and evaluates them in high precision.
 
 A record of facts is gone through field by field: an equation gives its left side a value, or is checked where it has one;
-IsSinCos, IsSqrt and IsCbrt2 give their results the exact values; a fact under a condition counts where the condition holds;
-every other fact is checked. A quotient by anything but a constant is refused where no fact said before, in the same words,
+IsPi, IsSinCos, IsSqrt and IsCbrt2 give their results the exact values; a fact under a condition counts where the condition
+holds; a name of a fact stands for what it says; every other fact is checked. A quotient by anything but a constant is refused where no fact said before, in the same words,
 that its divisor is not 0. No formula of the orbit stands in this file.
 """
 import re
@@ -12,13 +12,18 @@ from pathlib import Path
 
 import mpmath as mp
 
-TOKEN = re.compile(r"\s+|--[^\n]*\n|([A-Za-z_ℚℕℤ][\w₀-₉'ℚℕℤ]*|\d+|[-+*/^]ℚ|[≤<]ℚ|≡|→|×|¬|[-+*/^(){}:;,.=λ∷|⊎])")
+TOKEN = re.compile(r"\s+|--[^\n]*\n|([A-Za-z_ℚℕℤ][\w₀-₉'ℚℕℤ]*|\d+|[-+*/^]ℚ|[≤<]ℚ|≡|→|×|¬|[-+*/^%(){}:;,.=λ∷|⊎])")
 SET_TYPES = {"ℚ", "ℕ", "ℤ"}
-BINARY = {"≡": (4, 0), "≤ℚ": (4, 0), "<ℚ": (4, 0), "+ℚ": (6, 1), "-ℚ": (6, 1), "*ℚ": (7, 1), "/ℚ": (7, 1), "^ℚ": (8, 2), "^": (8, 2)}
+BINARY = {"⊎": (3, 0), "≡": (4, 0), "≤ℚ": (4, 0), "<ℚ": (4, 0), "+ℚ": (6, 1), "-ℚ": (6, 1), "*ℚ": (7, 1), "/ℚ": (7, 1), "^ℚ": (8, 2), "^": (8, 2),
+          "-": (6, 1), "*": (7, 1), "%": (7, 1)}
 
 
 class Failed(Exception):
     """A fact of the definitions does not hold."""
+
+
+class Unheld(Failed):
+    """A comparison of the definitions does not hold, or no side of an alternative."""
 
 
 def tokens_of(text):
@@ -35,7 +40,7 @@ def tokens_of(text):
 
 
 class Parser:
-    """Terms: ('num', n), ('name', path), ('app', f, args), (operator, a, b), ('arrow', a, b), ('record', fields)."""
+    """Terms: ('num', n), ('name', path), ('app', f, args), (operator, a, b), ('arrow', a, b), ('record', fields), ('field', a, name)."""
 
     def __init__(self, tokens):
         self.tokens, self.at = tokens, 0
@@ -77,6 +82,9 @@ class Parser:
         if token == "(":
             inner = self.term()
             self.take(")")
+            while self.peek() == ".":
+                self.take()
+                inner = ("field", inner, self.take())
             return inner
         if token.isdigit():
             return ("num", int(token))
@@ -137,7 +145,7 @@ def texts_below(folder, roots):
 
     def add(name):
         text = (Path(folder) / f"{name}.antt").read_text()
-        for lower in re.findall(r"^use Rattle\.sgp4_model\.specs\.(\w+)\.", text, re.M):
+        for lower in re.findall(r"^use Rattle\.sgp4_model\.specs\.([A-Z]\w*)\.", text, re.M):
             if lower not in texts:
                 add(lower)
         texts[name] = text
@@ -181,13 +189,14 @@ class Specs:
             elif re.match(r"(abbrev |unfoldable )?pub [\w◌]", head):
                 self.signature = head
             elif " = " in head or head.endswith("="):
-                clause = re.match(r"(\S+)((?: \w+)*) =(.*)", "\n".join(body).strip(), re.S)
+                clause = re.match(r"(\S+)((?: (?:\w+|\([\w ()]*\)))*) =(.*)", "\n".join(body).strip(), re.S)
                 if clause:
                     name, args, right = clause.groups()
-                    self.functions[name] = (list(outer), args.split(), right, dict(opened))
+                    patterns = [("name", (param,)) for param, _ in outer] + (parse(f"f {args}")[2] if args else [])
+                    self.functions.setdefault(name, []).append((patterns, right, dict(opened)))
 
     def read_record(self, body, start, outer, opened):
-        name, rest = re.match(r"pub record (\S+)(.*): Type 0 where", body[0].strip()).groups()
+        name, rest = re.match(r"pub record (\S+)(.*): Type \d where", body[0].strip()).groups()
         fields, at = [], 1
         while at < len(body):
             end = at + 1
@@ -220,6 +229,18 @@ def both(a, b):
 
 def real(a):
     return mp.mpf(a.numerator) / a.denominator if isinstance(a, Fraction) else mp.mpf(a)
+
+
+def matches(pattern, value, local):
+    """Whether a value is of a clause's pattern; its names are added to the local ones."""
+    head = pattern[1][1][0] if pattern[0] == "app" else pattern[1][0]
+    if head == "zero":
+        return value == 0
+    if head in ("suc", "pos", "negsuc"):
+        inner = {"suc": lambda: value - 1, "pos": lambda: value, "negsuc": lambda: -value - 1}[head]()
+        return inner >= 0 and matches(pattern[2][0], inner, local)
+    local[head] = value
+    return True
 
 
 class Evaluator:
@@ -263,13 +284,17 @@ class Evaluator:
             return self.defined(term[1][1][0], [self.value(arg, env) for arg in term[2]], env)
         if kind == "record":
             return Quantities(None, {name: self.value(inner, env) for name, inner in term[1].items()})
+        if kind == "field":
+            return self.value(term[1], env).fields[term[2]]
         a, b = both(self.value(term[1], env), self.value(term[2], env))
         if kind == "+ℚ":
             return a + b
-        if kind == "-ℚ":
+        if kind in ("-ℚ", "-"):
             return a - b
-        if kind == "*ℚ":
+        if kind in ("*ℚ", "*"):
             return a * b
+        if kind == "%":
+            return a % b
         if kind == "/ℚ":
             words, constant = self.words(term[2], env)
             if not constant and words not in self.divisors:
@@ -299,15 +324,23 @@ class Evaluator:
             return Fraction(args[0]) / args[1]
         if name in ("pos", "of_int"):
             return args[0]
+        if name == "suc":
+            return args[0] + 1
         if name == "neg_ℚ":
             return -args[0]
         if name == "abs_ℚ":
             return abs(args[0])
-        outer, names, right, opened = self.specs.functions[name]
-        params = [param for param, _ in outer] + names
-        if len(params) != len(args):
-            raise SyntaxError(f"{name} takes {params}")
-        return self.value(parse(right), {"local": dict(zip(params, args)), "opened": opened})
+        return self.value(*self.opened(name, args))
+
+    def opened(self, name, args):
+        """What a function's clause says, with the names that it knows."""
+        for patterns, right, opened in self.specs.functions[name]:
+            if len(patterns) != len(args):
+                raise SyntaxError(f"{name} takes {patterns}")
+            local = {}
+            if all([matches(pattern, arg, local) for pattern, arg in zip(patterns, args)]):
+                return parse(right), {"local": local, "opened": opened}
+        raise Failed(f"{name} has no clause for {args}")
 
     # ---- facts
 
@@ -321,13 +354,16 @@ class Evaluator:
             raise SyntaxError(f"{name} takes {params}")
         env = {"local": dict(zip(params, args)), "opened": record["opened"]}
         for field, kind in record["fields"]:
+            if kind in SET_TYPES:
+                env["local"][field] = (Quantities(None, {field: None}), field)
+                continue
             if kind in self.specs.records and self.specs.records[kind]["quantities"]:
                 env["local"][field] = self.fresh[field] = self.specs.unknown(kind)
                 continue
             try:
                 self.fact(parse(kind), env)
             except Failed as fault:
-                raise Failed(f"{name}.{field}: {fault}") from None
+                raise type(fault)(f"{name}.{field}: {fault}") from None
 
     def argument(self, term, env):
         """A value, or the place (record, field) of a number that is not known yet."""
@@ -364,8 +400,12 @@ class Evaluator:
             return False
 
     def holds(self, term, env):
-        a, b = both(self.value(term[1], env), self.value(term[2], env))
-        return a <= b if term[0] == "≤ℚ" else a < b
+        """Whether a condition holds of values that are known."""
+        try:
+            self.fact(term, env)
+            return True
+        except Unheld:
+            return False
 
     def fact(self, term, env):
         kind = term[0]
@@ -373,8 +413,12 @@ class Evaluator:
             if self.holds(term[1], env):
                 self.fact(term[2], env)
         elif kind in ("≤ℚ", "<ℚ"):
-            if not self.holds(term, env):
-                raise Failed("the guard fails")
+            a, b = both(self.value(term[1], env), self.value(term[2], env))
+            if not (a <= b if kind == "≤ℚ" else a < b):
+                raise Unheld("the guard fails")
+        elif kind == "⊎":
+            if not any([self.holds(side, env) for side in term[1:]]):
+                raise Unheld("neither holds")
         elif kind == "≡":
             self.give(self.argument(term[1], env), self.value(term[2], env))
         else:
@@ -385,7 +429,10 @@ class Evaluator:
             self.named_fact(name, args, env)
 
     def named_fact(self, name, args, env=None):
-        if name == "IsSinCos":
+        if name == "IsPi":
+            self.give(args[0], mp.mpf(mp.pi))
+            self.facts(name, [self.known(args[0])])
+        elif name == "IsSinCos":
             _, x, sine, cosine = args
             self.give(sine, mp.sin(real(x)))
             self.give(cosine, mp.cos(real(x)))
@@ -405,6 +452,8 @@ class Evaluator:
         elif name == "SolvesKepler" and isinstance(args[4], tuple):
             self.give(args[4], self.kepler_root(args))
             self.facts(name, args[:4] + [self.known(args[4])] + args[5:])
+        elif name in self.specs.functions:
+            self.fact(*self.opened(name, args))
         else:
             self.facts(name, args, env)
 
