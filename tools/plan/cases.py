@@ -191,7 +191,7 @@ class Case:
         up = row.station.sight(self.sky.sidereal(at), sat.orbit.at(sat.minutes(self.start, at)))[2]
         peaks = [k for k in range(1, len(at) - 1) if up[k - 1] < up[k] >= up[k + 1] and up[k] > 0.0]
         if peaks:
-            row.raise_to(round(math.degrees(math.asin(self.peak(sat, row.station, at, rng.choice(peaks)))), 10))
+            row.raise_to(round(math.degrees(math.asin(min(1.0, self.peak(sat, row.station, at, rng.choice(peaks))))), 10))
 
     def peak(self, sat, station, at, k):
         low, high = at[k - 1], at[k + 1]
