@@ -200,6 +200,8 @@ row 6 $'error read\n' book --catalogue=c --stations=absent "${hour[@]}" --antenn
 heads 0 $'PASSGRID 1\nSATS 1\nREFUSED 0\nVISIBLE 0 0\nHIDDEN 2 72000000\nUNDECIDED 0 0\nUNRESOLVED 0\nFULL 0\nDECAYS 0\n' \
   grid --count=1
 holds 0 'PASSGRID 1~SATS 20~REFUSED 0~' grid --count=20
+"$program" grid --count=20 >once
+row 0 "$(cat once)"$'\n' grid --count=20
 row 2 $'error usage value count\n' grid --count=0
 row 2 $'error usage value count\n' grid --count=1001
 row 2 $'error usage value count\n' grid --count=01
