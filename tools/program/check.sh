@@ -202,6 +202,10 @@ heads 0 $'PASSGRID 1\nSATS 1\nREFUSED 0\nVISIBLE 0 0\nHIDDEN 2 72000000\nUNDECID
 holds 0 'PASSGRID 1~SATS 20~REFUSED 0~' grid --count=20
 "$program" grid --count=20 >once
 row 0 "$(cat once)"$'\n' grid --count=20
+# (judges that never tell of a part of a cell would ask for more than twice as many verdicts)
+rows=$((rows + 1))
+cells=$(awk '/^CELLS/ { print $2 }' once)
+[ "$cells" -le 1336 ] || fails "$rows (verdicts of grid)" 'at most 1336' "$cells"
 row 2 $'error usage value count\n' grid --count=0
 row 2 $'error usage value count\n' grid --count=1001
 row 2 $'error usage value count\n' grid --count=01
