@@ -1,5 +1,5 @@
 //! The judge of daylight at a place.
-ghost use Rattle.std.specs.Prelude.{◌≡◌, ◌≢◌, ◌+◌, ◌<◌, ◌≤ℤ◌, ◌<ℤ◌, ◌^◌, pos};
+ghost use Rattle.std.specs.Prelude.{◌≡◌, ◌+◌, ◌<◌, ◌^◌};
 ghost use Rattle.elements.specs.Offset.{IsOffset};
 ghost use Rattle.fixed_iv.specs.Holds.{Holds};
 ghost use Rattle.orbit_sight.specs.Daylight.{EachLight, day_of};
@@ -8,11 +8,13 @@ ghost use Rattle.station_view.specs.Spot.{IsNoWider};
 
 use crate::day_survey::day_survey;
 use crate::daylight::light_over;
+use crate::verdict::verdict_of;
 use elements::Window;
 use enc_plain::Plain;
 use fixed_iv::{Enc, Iv};
 use span_bisect::{Judge, Survey, Verdict};
 use station_view::Spot;
+use sun_shade::judge_light;
 
 /// Ticks from which on the Earth turns too far for lines to tell where the Sun rises or sets: eight hours.
 const LONG: u64 = 288_000_000;
@@ -71,7 +73,7 @@ impl<'a> Judge for DayJudge<'a> {
 
     fn judge(&self, from: u64, to: u64) -> Verdict {
         let light: Plain = light_over(self.spot, self.window.start(), self.dut1_ms, from, to);
-        verdict_of(light.bounds())
+        verdict_of(Some(judge_light(light.bounds())), false)
     }
 
     fn survey(&self, from: u64, to: u64) -> Survey {
@@ -84,22 +86,5 @@ impl<'a> Judge for DayJudge<'a> {
             right: to,
             last: Verdict::Unsure,
         }
-    }
-}
-
-/// What an interval of the sine of the Sun's elevation says.
-fn verdict_of(light: Iv) -> Verdict
-    ensures yes { result ≡ Verdict.Yes → pos 0 <ℤ light.lo }
-    ensures no { result ≡ Verdict.No → light.hi <ℤ pos 0 }
-    ensures unsure { result ≡ Verdict.Unsure → (light.lo ≤ℤ pos 0) × (pos 0 ≤ℤ light.hi) }
-    ensures sinks { result ≢ Verdict.Sinks }
-{
-    let (low, high) = light.ends();
-    if low > 0 {
-        Verdict::Yes
-    } else if high < 0 {
-        Verdict::No
-    } else {
-        Verdict::Unsure
     }
 }

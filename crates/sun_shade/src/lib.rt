@@ -5,6 +5,6 @@ mod judge;
 mod shadow;
 mod vector;
 
-pub use judge::judge_shade;
+pub use judge::{judge_light, judge_shade};
 pub use shadow::shade;
 pub use vector::Shade;
