@@ -24,7 +24,7 @@ from plan import Refused  # noqa: E402
 HOUR = 36_000_000  # ticks of the window of grid
 SATELLITES = 16_384
 SPANS = 1_048_576
-RANGES = ((0, 100), (0, 1), (0, 180), (-360, 360), (-360, 360), (-360, 360), (-(10**18), 10**18))  # motion .. drag term
+RANGES = ((0, 10**11), (0, 1), (0, 180), (-360, 360), (-360, 360), (-360, 360), (-(10**18), 10**18))  # motion .. drag term
 WORDS = "lat lon start end res catalogue stations number at count antennas first second station".split()
 KEYS = "version station name lat lon height mask borders masks other dut1_ms".split()
 OMM = (

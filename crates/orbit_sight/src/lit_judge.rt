@@ -1,5 +1,5 @@
 //! The judge of a satellite's sunlight.
-ghost use Rattle.std.specs.Prelude.{◌≡◌, ◌+◌, ◌<◌, IfNone, IfSome};
+ghost use Rattle.std.specs.Prelude.{◌≡◌, ◌+◌, ◌<◌, IfNone, IfSome, IsSome};
 ghost use Rattle.elements.specs.Elements.{record_of_elements};
 ghost use Rattle.orbit_sight.specs.Lit.{AreNarrow, HoldsEachLit, lit_of};
 ghost use Rattle.orbit_sight.specs.Over.{IsNearOver};
@@ -8,7 +8,7 @@ ghost use Rattle.sgp4_model.specs.Time.{Somewhere};
 use crate::craft::Craft;
 use crate::lit_over::{ends_of, lit_over, shade_over};
 use crate::lit_survey::lit_survey;
-use crate::slopes::are_slopes_of_use;
+use crate::slopes::{are_slopes_of_use_for_light, is_vast};
 use crate::verdict::verdict_of;
 use elements::Window;
 use enc_plain::Plain;
@@ -41,6 +41,7 @@ impl<'a> LitJudge<'a> {
         ensures holds { IfSome result (HoldsEachLit self.now.craft.now self.now.window tick) }
         ensures narrow { IfSome result AreNarrow }
         ensures none { IfNone result (Somewhere tick (tick + 1) (lit_of self.now.craft.now self.now.window).sinks) }
+        ensures found { IsSome result }
     {
         let found = shade_over::<Plain>(self.craft, &self.window, tick, tick + 1)?;
         Some(ends_of(&found))
@@ -63,7 +64,7 @@ impl<'a> Judge for LitJudge<'a> {
     }
 
     fn judge(&self, from: u64, to: u64) -> Verdict {
-        if are_slopes_of_use(to - from) {
+        if are_slopes_of_use_for_light(to - from) {
             return verdict_of(lit_over::<Lin>(self.craft, &self.window, from, to), false);
         }
         let side = lit_over::<Plain>(self.craft, &self.window, from, to);
@@ -71,11 +72,16 @@ impl<'a> Judge for LitJudge<'a> {
     }
 
     fn survey(&self, from: u64, to: u64) -> Survey {
-        if are_slopes_of_use(to - from) {
+        if are_slopes_of_use_for_light(to - from) {
             return lit_survey(self.craft, &self.window, from, to);
         }
+        let first = if is_vast(to - from) {
+            Verdict::Unsure
+        } else {
+            self.judge(from, to)
+        };
         Survey {
-            first: self.judge(from, to),
+            first,
             left: to,
             right: to,
             last: Verdict::Unsure,

@@ -1,5 +1,5 @@
 //! The judges of a satellite and a station.
-ghost use Rattle.std.specs.Prelude.{◌≡◌, IfNone, IfSome, ◌+◌, ◌<◌};
+ghost use Rattle.std.specs.Prelude.{◌≡◌, IfNone, IfSome, IsSome, ◌+◌, ◌<◌};
 ghost use Rattle.elements.specs.Offset.{IsOffset};
 ghost use Rattle.elements.specs.Elements.{record_of_elements};
 ghost use Rattle.orbit_sight.specs.Over.{IsNearOver};
@@ -63,6 +63,7 @@ impl<'a> PairJudge<'a> {
         ensures holds { IfSome result (HoldsEachSight self.now.craft.now self.now.station.now self.now.window self.now.dut1_ms tick) }
         ensures narrow { IfSome result (λ sight. IsNarrowSight (decimal 1 3) sight self.now.station.now.mask) }
         ensures none { IfNone result (Somewhere tick (tick + 1) (track_of self.now.craft.now self.now.station.now self.now.window self.now.dut1_ms).sinks) }
+        ensures found { IsSome result }
     {
         sight_at(self.craft, self.station, &self.window, self.dut1_ms, tick)
     }

@@ -11,3 +11,22 @@ pub(crate) fn are_slopes_of_use(ticks: u64) -> bool
 {
     ticks > 1 && ticks < LONG
 }
+
+/// Ticks from which on intervals tell whether a satellite is sunlit at less cost: some three and a half minutes.
+const LONG_FOR_LIGHT: u64 = 1 << 21;
+
+/// Ticks from which on no enclosure tells whether a satellite is sunlit: some 28 minutes, in which one of a long period goes an
+/// eighth of its way round.
+const VAST: u64 = 1 << 24;
+
+/// Whether slopes pay for their work where it is asked whether a satellite is sunlit.
+pub(crate) fn are_slopes_of_use_for_light(ticks: u64) -> bool
+    ensures { IsTrue result → 1 < ticks }
+{
+    ticks > 1 && ticks < LONG_FOR_LIGHT
+}
+
+/// Whether a cell of so many ticks is not worth a look at the shadow.
+pub(crate) fn is_vast(ticks: u64) -> bool {
+    ticks >= VAST
+}

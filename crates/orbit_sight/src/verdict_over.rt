@@ -1,5 +1,5 @@
 //! What is said of a satellite and a station over a cell of a window.
-ghost use Rattle.std.specs.Prelude.{◌≡◌, IfNone, IfSome, T, ◌+◌, ◌<◌, ◌≤◌};
+ghost use Rattle.std.specs.Prelude.{◌≡◌, IfNone, IfSome, IsSome, T, ◌+◌, ◌<◌, ◌≤◌};
 ghost use Rattle.elements.specs.Offset.{IsOffset};
 ghost use Rattle.elements.specs.Elements.{record_of_elements};
 ghost use Rattle.orbit_sight.specs.Over.{IsNearOver};
@@ -54,6 +54,7 @@ pub(crate) fn sight_at(
     ensures holds { IfSome result (HoldsEachSight craft.now station.now window.now dut1_ms tick) }
     ensures narrow { IfSome result (λ sight. IsNarrowSight (decimal 1 3) sight station.now.mask) }
     ensures none { IfNone result (Somewhere tick (tick + 1) (track_of craft.now station.now window.now dut1_ms).sinks) }
+    ensures found { IsSome result }
 {
     let ticks = window.ticks();
     prove!(tick < ticks);
