@@ -1,6 +1,6 @@
 """The passes of a satellite over a station in a window, by a separately written SGP4 (tools/equations/reference.py), outside the
 gate: when its elevation crosses a flat mask, in ticks of 100 microseconds from the window's start. UT1 is taken as UTC, the
-station stands on the ellipsoid of WGS-84. These are the contacts that rows_plan expects of its day of the ISS.
+station stands on the ellipsoid of WGS-84. These are the contacts that rows_passes expects of its day of the ISS.
 
 How to run it, at the top of the repository:
 
