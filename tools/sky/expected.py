@@ -132,13 +132,13 @@ def station_file():
 
 
 def written(sky):
-    lines = ["//! Expected values, made by tools/sky/expected.py.", "use elements::Instant;", ""]
+    lines = ["//! Expected values, made by tools/sky/expected.py.", "ghost use Rattle.elements.specs.Offset.{IsOffset};", "", "use elements::Instant;", ""]
     lines += ["/// Instants, and stations.", f"pub const CASES: usize = {len(CASES)};", "", f"pub const STATIONS: usize = {len(STATIONS)};", ""]
     lines += ["/// A file of the stations.", "pub const FILE: &str =", f'    "{station_file()}";', ""]
     lines += ["/// The instant from which the time of a case is counted.", "pub fn base(k: usize) -> Instant {", "    match k {"]
     lines += [f"        {k} => Instant::from_nanos({case[0]:_})," for k, case in enumerate(CASES[:-1])]
     lines += [f"        _ => Instant::from_nanos({CASES[-1][0]:_}),", "    }", "}", ""]
-    lines += ["/// The offset of UT1 of a case, in milliseconds.", "pub fn offset(k: usize) -> i32 {", "    match k {"]
+    lines += ["/// The offset of UT1 of a case, in milliseconds.", "pub fn offset(k: usize) -> i32", "    ensures { IsOffset result }", "{", "    match k {"]
     lines += [f"        {k} => {case[1]}," for k, case in enumerate(CASES[:-1])] + [f"        _ => {CASES[-1][1]},", "    }", "}", ""]
     given = [x for case, position in zip(CASES, POSITIONS) for x in (case[2], *position)]
     lines += array("/// The time of each case, in 64ths of 16,384 minutes; and a position, in 64ths of an Earth radius.", "GIVEN", plain(given), 4)

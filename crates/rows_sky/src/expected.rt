@@ -1,4 +1,6 @@
 //! Expected values, made by tools/sky/expected.py.
+ghost use Rattle.elements.specs.Offset.{IsOffset};
+
 use elements::Instant;
 
 /// Instants, and stations.
@@ -23,7 +25,9 @@ pub fn base(k: usize) -> Instant {
 }
 
 /// The offset of UT1 of a case, in milliseconds.
-pub fn offset(k: usize) -> i32 {
+pub fn offset(k: usize) -> i32
+    ensures { IsOffset result }
+{
     match k {
         0 => 900,
         1 => -731,
