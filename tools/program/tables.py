@@ -19,7 +19,7 @@ WRITERS = {
     "tools/catalogue/expected.py": "rows_messages", "tools/numbers/expected.py": "rows_numbers", "tools/numbers/slope_values.py": "rows_lin",
     "tools/orbit/constants.py": "rows_init", "tools/orbit/kepler_roots.py": "rows_kepler", "tools/orbit/mean_elements.py": "rows_orbit",
     "tools/orbit/positions.py": "rows_place", "tools/orbit/recovered_motion.py": "rows_motion", "tools/shade/expected.py": "rows_shade",
-    "tools/stations/expected.py": "rows_view",
+    "tools/sky/expected.py": "rows_sky", "tools/stations/expected.py": "rows_view",
 }
 
 
