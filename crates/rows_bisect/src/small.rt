@@ -126,3 +126,18 @@ fn a_track_that_sinks_decays(rt: HostRuntime) -> Result<(), Fail> {
     }
     Ok(())
 }
+
+#[test]
+fn a_track_that_sinks_keeps_the_other_lists(rt: HostRuntime) -> Result<(), Fail> {
+    let judge = Listed::new(
+        20,
+        &[(7, Verdict::Yes), (8, Verdict::Sinks), (20, Verdict::Yes)],
+    );
+    let mut pool = SpanPool::with_slots(rt.alloc(), 3)?;
+    let (track, _) = covered(&turning(), 10_000, &mut pool, &rt);
+    let answer = refused(&judge, 10_000, &mut pool, &rt);
+    assert_eq!(rt; answer, Refusal::Decays { at: 7 });
+    assert_eq!(rt; pool.used(), 2);
+    assert!(rt; is_list(&pool, &track, &[yes(0, 10), no(10, 20)]));
+    Ok(())
+}

@@ -34,6 +34,9 @@ pub const STATION2: &[u8] =
 pub const MESSAGE: &[u8] =
     b"CCSDS_OMM_VERS = 2.0\nCOMMENT keywords in another order\nCREATION_DATE = 2008-09-21T00:00:00\nORIGINATOR =\nOBJECT_NAME = ISS (ZARYA)\nOBJECT_ID = 1998-067A\nCENTER_NAME = EARTH\nREF_FRAME = TEME\nTIME_SYSTEM = UTC\nMEAN_ELEMENT_THEORY = SGP4\nBSTAR = -.11606E-4 [1/ER]\nEPOCH = 2008-09-20T12:25:40.104192\nNORAD_CAT_ID = 25544\nMEAN_MOTION = 15.72125391 [rev/day]\nECCENTRICITY = 0.0006703\nINCLINATION = 51.6416 [deg]\nRA_OF_ASC_NODE = 247.4627 [deg]\nARG_OF_PERICENTER = 130.5360 [deg]\nMEAN_ANOMALY = 325.0288 [deg]\n";
 
+/// The words that ask for it.
+pub const STATION_WORDS: &str = "show --catalogue=a --start=2008-09-20T00:00:00Z";
+
 /// The elements of both sets, as they are printed between number and name.
 pub const VANGUARD_SET: &[u8] =
     b"2000-06-27T18:50:19.733568000Z 10.82419157 0.1859667 34.2682 348.7242 331.7664 19.3264 0.000028098 ";

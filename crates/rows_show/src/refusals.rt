@@ -123,6 +123,10 @@ fn a_file_has_at_most_16_mib(rt: HostRuntime) -> Result<(), Fail> {
     writes(WORDS, bytes.as_slice(), b"error catalogue odd 1\n", 4, &rt)?;
     bytes.push(b'x')?;
     writes(WORDS, bytes.as_slice(), b"error toolong\n", 7, &rt)?;
+    let mut blanks = vec![in rt.alloc(); b' '; 16_777_216]?;
+    writes(WORDS, blanks.as_slice(), b"error catalogue empty\n", 4, &rt)?;
+    blanks.push(b' ')?;
+    writes(WORDS, blanks.as_slice(), b"error toolong\n", 7, &rt)?;
     Ok(())
 }
 
