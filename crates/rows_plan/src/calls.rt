@@ -2,7 +2,6 @@
 ghost use Rattle.std.specs.Prelude.{◌≡◌, ◌≤◌, length, IfOk, OnOk};
 ghost use Rattle.span_pool.specs.Pool.{slots_used};
 
-use crate::given::{EQUATOR, POLE, an_hour};
 use catalogue::read_catalogue;
 use elements::Window;
 use plan_core::{Plan, Planner};
@@ -23,17 +22,17 @@ fn small(text: &[u8]) -> Result<&[u8], &'static str>
     Ok(text)
 }
 
-/// The count is one.
-fn one(count: u32) -> Result<(), &'static str>
-    ensures { OnOk result (count ≡ 1) }
+/// The count is not 0.
+fn some(count: u32) -> Result<(), &'static str>
+    ensures { OnOk result (1 ≤ count) }
 {
-    if count != 1 {
-        return Err("one");
+    if count == 0 {
+        return Err("none");
     }
     Ok(())
 }
 
-/// The planner of the satellites of a file, the stations of another and a window.
+/// The planner of the satellites of a file, the stations of another and a window, where there are some of both.
 pub fn planner_of(
     alloc: Global,
     lines: &[u8],
@@ -43,24 +42,14 @@ pub fn planner_of(
 ) -> Result<Planner, Fail>
     requires { (1 ≤ slots) × (slots ≤ 1048576) }
     ensures used { IfOk result (λ planner. slots_used planner.pool ≡ 0) }
+    ensures entries { IfOk result (λ planner. 1 ≤ length planner.entries) }
+    ensures stations { IfOk result (λ planner. 1 ≤ length planner.setting.stations.rows) }
 {
     let catalogue = read_catalogue(alloc, small(lines)?, window.start())?;
+    some(catalogue.len())?;
     let stations = read_stations(alloc, stations)?;
+    some(stations.len())?;
     Ok(Planner::make(alloc, catalogue, stations, window, slots)?)
-}
-
-/// The planner of the first satellite and the pole over an hour, with one slot.
-pub fn one_planner(alloc: Global) -> Result<Planner, Fail>
-    ensures used { IfOk result (λ planner. slots_used planner.pool ≡ 0) }
-    ensures entries { IfOk result (λ planner. length planner.entries ≡ 1) }
-    ensures stations { IfOk result (λ planner. length planner.setting.stations.rows ≡ 1) }
-{
-    let window = an_hour();
-    let catalogue = read_catalogue(alloc, small(EQUATOR)?, window.start())?;
-    one(catalogue.len())?;
-    let stations = read_stations(alloc, POLE)?;
-    one(stations.len())?;
-    Ok(Planner::make(alloc, catalogue, stations, window, 1)?)
 }
 
 /// Their plan.

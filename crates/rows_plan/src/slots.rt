@@ -1,8 +1,9 @@
 //! Rows that are given back to a planner with one slot.
-ghost use Rattle.std.specs.Prelude.{◌≡◌, length};
+ghost use Rattle.std.specs.Prelude.{◌≤◌, length};
 ghost use Rattle.span_pool.specs.Pool.{Holds};
 
-use crate::calls::one_planner;
+use crate::calls::planner_of;
+use crate::given::{EQUATOR, POLE, an_hour};
 use crate::read::{is_small, is_span};
 use plan_core::{Planner, Track, TrackAnswer};
 use span_bisect::Mark;
@@ -10,7 +11,7 @@ use std::test::Fail;
 
 /// Whether the row of the first satellite's light is small, and how many slots are in use with it and after it is given back.
 fn light_slots(planner: &mut Planner) -> Option<(bool, u32, u32)>
-    requires { length planner.old.entries ≡ 1 }
+    requires { 1 ≤ length planner.old.entries }
 {
     if planner.fate(0).is_some() {
         return None;
@@ -26,7 +27,7 @@ fn light_slots(planner: &mut Planner) -> Option<(bool, u32, u32)>
 
 #[test]
 fn light_gives_its_slots_back(rt: HostRuntime) -> Result<(), Fail> {
-    let mut planner = one_planner(rt.alloc())?;
+    let mut planner = planner_of(rt.alloc(), EQUATOR, POLE, an_hour(), 1)?;
     let (small, used, left) = light_slots(&mut planner).ok_or("accepted")?;
     assert!(rt; small);
     assert!(rt; used <= 1);
@@ -46,8 +47,8 @@ fn is_hidden_hour(planner: &Planner, track: &Track) -> bool
 /// Whether the row of the first satellite at the first station is hidden, and how many slots are in use with it and after it is
 /// given back.
 fn pair_slots(planner: &mut Planner) -> Option<(bool, u32, u32)>
-    requires entries { length planner.old.entries ≡ 1 }
-    requires stations { length planner.old.setting.stations.rows ≡ 1 }
+    requires entries { 1 ≤ length planner.old.entries }
+    requires stations { 1 ≤ length planner.old.setting.stations.rows }
 {
     if planner.fate(0).is_some() {
         return None;
@@ -63,7 +64,7 @@ fn pair_slots(planner: &mut Planner) -> Option<(bool, u32, u32)>
 
 #[test]
 fn a_pair_gives_its_slots_back(rt: HostRuntime) -> Result<(), Fail> {
-    let mut planner = one_planner(rt.alloc())?;
+    let mut planner = planner_of(rt.alloc(), EQUATOR, POLE, an_hour(), 1)?;
     let (hidden, used, left) = pair_slots(&mut planner).ok_or("spans")?;
     assert!(rt; hidden);
     assert_eq!(rt; used, 1);
