@@ -45,6 +45,7 @@ def prefix(line):
 
 # scripts that print rows: the file, which of the lines are rows, and a row in the form of the file
 PRINTERS = {
+    "tools/numbers/root_digests.py": ("rows_roots/src/classes.rt", lambda line: True, lambda line: line),
     "tools/grid/sets.py": ("rows_grid/src/sets.rt", lambda line: True, lambda line: line),
     "tools/pairs/expected.py": ("rows_cells/src/pairs.rt", lambda line: True, lambda line: line),
     "tools/day/sunrises.py": ("rows_day/src/sunrises.rt", lambda line: line.startswith(" "), sunrise),

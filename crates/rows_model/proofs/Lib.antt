@@ -1,6 +1,7 @@
 mod ContactCases
 mod HeadlineCases
 mod HorizonCases
+mod OrbitCases
 mod PartCases
 mod SinkingCases
 mod SmallCases

@@ -2,6 +2,7 @@ pub mod Contacts
 pub mod Headline
 pub mod Horizon
 pub mod Instants
+pub mod Orbit
 pub mod Parts
 pub mod Rows
 pub mod Shadow

@@ -4,6 +4,7 @@
 ghost use Rattle.rows_model.specs.Contacts.{CertifiedContactsAreTrue};
 ghost use Rattle.rows_model.specs.Headline.{CertifiedSpansAreTrue};
 ghost use Rattle.rows_model.specs.Horizon.{HorizonRows};
+ghost use Rattle.rows_model.specs.Orbit.{PartsMakeMeanElements, PartsMakePositions, PartsMakeRoots};
 ghost use Rattle.rows_model.specs.Parts.{ContactsMakeSolutions, PairsMakeADay, PairsMakeASun, PositionsMakeLight, ThreeSectorsGoRound};
 ghost use Rattle.rows_model.specs.Rows.{DecayRows, FullRows, SpanRows, UnresolvedRows};
 ghost use Rattle.rows_model.specs.Shadow.{ShadowRows};
@@ -96,6 +97,9 @@ pub fn parts_make_solutions()
     ensures day { PairsMakeADay }
     ensures light { PositionsMakeLight }
     ensures contact { ContactsMakeSolutions }
+    ensures root { PartsMakeRoots }
+    ensures mean { PartsMakeMeanElements }
+    ensures position { PartsMakePositions }
 {}
 
 /// Three sectors of a mask go round the horizon.
