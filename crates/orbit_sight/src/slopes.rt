@@ -12,8 +12,8 @@ pub(crate) fn are_slopes_of_use(ticks: u64) -> bool
     ticks > 1 && ticks < LONG
 }
 
-/// Ticks from which on intervals tell whether a satellite is sunlit at less cost: some three and a half minutes.
-const LONG_FOR_LIGHT: u64 = 1 << 21;
+/// Ticks from which on intervals tell whether a satellite is sunlit at less cost: some seven minutes.
+const LONG_FOR_LIGHT: u64 = 1 << 22;
 
 /// Ticks from which on no enclosure tells whether a satellite is sunlit: some 28 minutes, in which one of a long period goes an
 /// eighth of its way round.
