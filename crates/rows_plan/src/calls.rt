@@ -1,12 +1,10 @@
-//! Plans of files, and what their rows are.
-ghost use Rattle.std.specs.Prelude.{◌≡◌, ◌<◌, ◌≤◌, length, IfOk, OnOk};
-ghost use Rattle.span_pool.specs.Pool.{Holds, slots_used};
+//! Plans of files.
+ghost use Rattle.std.specs.Prelude.{◌≡◌, ◌≤◌, length, IfOk, OnOk};
+ghost use Rattle.span_pool.specs.Pool.{slots_used};
 
-use crate::given::{EQUATOR, POLE, an_hour};
 use catalogue::read_catalogue;
 use elements::Window;
-use plan_core::{Plan, Planner, Span, Track, TrackAnswer};
-use span_bisect::Mark;
+use plan_core::{Plan, Planner};
 use station_file::read_stations;
 use std::alloc::Global;
 use std::test::Fail;
@@ -24,17 +22,17 @@ fn small(text: &[u8]) -> Result<&[u8], &'static str>
     Ok(text)
 }
 
-/// The count is one.
-fn one(count: u32) -> Result<(), &'static str>
-    ensures { OnOk result (count ≡ 1) }
+/// The count is not 0.
+fn some(count: u32) -> Result<(), &'static str>
+    ensures { OnOk result (1 ≤ count) }
 {
-    if count != 1 {
-        return Err("one");
+    if count == 0 {
+        return Err("none");
     }
     Ok(())
 }
 
-/// The planner of the satellites of a file, the stations of another and a window.
+/// The planner of the satellites of a file, the stations of another and a window, where there are some of both.
 pub fn planner_of(
     alloc: Global,
     lines: &[u8],
@@ -44,68 +42,17 @@ pub fn planner_of(
 ) -> Result<Planner, Fail>
     requires { (1 ≤ slots) × (slots ≤ 1048576) }
     ensures used { IfOk result (λ planner. slots_used planner.pool ≡ 0) }
-    ensures slots { IfOk result (λ planner. planner.pool.slots ≡ slots) }
+    ensures entries { IfOk result (λ planner. 1 ≤ length planner.entries) }
+    ensures stations { IfOk result (λ planner. 1 ≤ length planner.setting.stations.rows) }
 {
     let catalogue = read_catalogue(alloc, small(lines)?, window.start())?;
+    some(catalogue.len())?;
     let stations = read_stations(alloc, stations)?;
+    some(stations.len())?;
     Ok(Planner::make(alloc, catalogue, stations, window, slots)?)
-}
-
-/// The planner of the first satellite and the pole over an hour, with one slot.
-pub fn one_planner(alloc: Global) -> Result<Planner, Fail>
-    ensures used { IfOk result (λ planner. slots_used planner.pool ≡ 0) }
-    ensures slots { IfOk result (λ planner. planner.pool.slots ≡ 1) }
-    ensures entries { IfOk result (λ planner. length planner.entries ≡ 1) }
-    ensures stations { IfOk result (λ planner. length planner.setting.stations.rows ≡ 1) }
-{
-    let window = an_hour();
-    let catalogue = read_catalogue(alloc, small(EQUATOR)?, window.start())?;
-    one(catalogue.len())?;
-    let stations = read_stations(alloc, POLE)?;
-    one(stations.len())?;
-    Ok(Planner::make(alloc, catalogue, stations, window, 1)?)
 }
 
 /// Their plan.
 pub fn plan_of(alloc: Global, lines: &[u8], stations: &[u8], window: Window) -> Result<Plan, Fail> {
     Ok(planner_of(alloc, lines, stations, window, SLOTS)?.plan())
-}
-
-/// Whether the row of a satellite at a station is these spans.
-pub fn is_pair(plan: &Plan, sat: u32, station: u32, spans: &[(Mark, u64, u64)]) -> bool
-    requires sat { sat < length plan.now.satellites }
-    requires station { station < length plan.now.setting.stations.rows }
-{
-    match plan.pair_row(sat, station) {
-        Some(TrackAnswer::Spans(track)) => is_list(plan, track, spans),
-        _ => false,
-    }
-}
-
-/// Whether a track has these spans.
-fn is_list(plan: &Plan, track: &Track, spans: &[(Mark, u64, u64)]) -> bool
-    requires { Holds plan.now.pool track.now }
-{
-    if track.count() as usize != spans.len() {
-        return false;
-    }
-    let mut k = 0;
-    for (mark, from, to) in spans {
-        if !is_span(plan.span(track, k), *mark, *from, *to) {
-            return false;
-        }
-        if k == u32::MAX {
-            return false;
-        }
-        k += 1;
-    }
-    true
-}
-
-/// Whether the span is there, and this one.
-fn is_span(span: Option<Span>, mark: Mark, from: u64, to: u64) -> bool {
-    match span {
-        Some(span) => span.mark == mark && span.from == from && span.to == to,
-        None => false,
-    }
 }

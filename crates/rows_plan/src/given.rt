@@ -1,6 +1,4 @@
 //! Files and windows.
-ghost use Rattle.std.specs.Prelude.{◌≡◌, pos};
-
 use elements::{Instant, Window};
 
 /// A circle over the equator, 566 kilometres high, at 2000-06-27T00:00:00.
@@ -19,19 +17,11 @@ pub const ECCENTRIC: &[u8] =
 pub const BOTH: &[u8] =
     b"1 90001U 00001A   00179.00000000  .00000000  00000-0  00000-0 0    12\n2 90001   0.0000   0.0000 0010000   0.0000   0.0000  6.00000000    10\n1 90002U 00001A   00179.00000000  .00000000  00000-0  00000-0 0    13\n2 90002   0.0000   0.0000 0010000   0.0000 180.0000 15.00000000    10\n";
 
-/// A published set of 2008, day 264.
-pub const ISS: &[u8] =
-    b"ISS (ZARYA)\n1 25544U 98067A   08264.51782528 -.00002182  00000-0 -11606-4 0  2927\n2 25544  51.6416 247.4627 0006703 130.5360 325.0288 15.72125391563537\n";
-
 /// A station at the North Pole.
 pub const POLE: &[u8] =
     b"version = 1\n[[station]]\nname = \"Pole\"\nlat = \"90\"\nlon = \"0\"\nheight = \"0\"\nmask = \"0\"\n";
 
-/// The same that sees through the Earth.
-pub const POLE_OPEN: &[u8] =
-    b"version = 1\n[[station]]\nname = \"Pole\"\nlat = \"90\"\nlon = \"0\"\nheight = \"0\"\nmask = \"-90\"\n";
-
-/// Both.
+/// The same, and one that sees through the Earth.
 pub const POLES: &[u8] =
     b"version = 1\n[[station]]\nname = \"Pole\"\nlat = \"90\"\nlon = \"0\"\nheight = \"0\"\nmask = \"0\"\n[[station]]\nname = \"Open\"\nlat = \"90\"\nlon = \"0\"\nheight = \"0\"\nmask = \"-90\"\n";
 
@@ -39,15 +29,8 @@ pub const POLES: &[u8] =
 pub const BORDERS: &[u8] =
     b"version = 1\n[[station]]\nname = \"Borders\"\nlat = \"0\"\nlon = \"0\"\nheight = \"0\"\nborders = [\"0\", \"90\", \"180\", \"270\"]\nmasks = [\"0\", \"80\", \"80\", \"0\"]\n";
 
-/// A station near Munich.
-pub const MUNICH: &[u8] =
-    b"version = 1\n[[station]]\nname = \"Munich\"\nlat = \"48.1\"\nlon = \"11.3\"\nheight = \"600\"\nmask = \"5\"\n";
-
 /// An hour from 2000-06-27T00:00:00Z.
-pub fn an_hour() -> Window
-    ensures start { result.start ≡ pos 15336000000000000 }
-    ensures ticks { result.ticks ≡ 36000000 }
-{
+pub fn an_hour() -> Window {
     Window::make(
         Instant::from_nanos(15_336_000_000_000_000),
         36_000_000,
@@ -56,10 +39,7 @@ pub fn an_hour() -> Window
 }
 
 /// Two hours from then.
-pub fn two_hours() -> Window
-    ensures start { result.start ≡ pos 15336000000000000 }
-    ensures ticks { result.ticks ≡ 72000000 }
-{
+pub fn two_hours() -> Window {
     Window::make(
         Instant::from_nanos(15_336_000_000_000_000),
         72_000_000,
@@ -68,25 +48,10 @@ pub fn two_hours() -> Window
 }
 
 /// An hour eight days later.
-pub fn an_hour_later() -> Window
-    ensures start { result.start ≡ pos 16027200000000000 }
-    ensures ticks { result.ticks ≡ 36000000 }
-{
+pub fn an_hour_later() -> Window {
     Window::make(
         Instant::from_nanos(16_027_200_000_000_000),
         36_000_000,
-        10_000,
-    )
-}
-
-/// A day from 2008-09-20T12:00:00Z.
-pub fn a_day() -> Window
-    ensures start { result.start ≡ pos 275184000000000000 }
-    ensures ticks { result.ticks ≡ 864000000 }
-{
-    Window::make(
-        Instant::from_nanos(275_184_000_000_000_000),
-        864_000_000,
         10_000,
     )
 }

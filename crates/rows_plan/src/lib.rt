@@ -6,8 +6,10 @@ mod calls;
 #[cfg(test)]
 mod given;
 #[cfg(test)]
+mod read;
+#[cfg(test)]
 mod refused;
 #[cfg(test)]
 mod rows;
 #[cfg(test)]
-mod tables;
+mod slots;
