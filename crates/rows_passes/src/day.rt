@@ -2,7 +2,7 @@
 ghost use Rattle.std.specs.Prelude.{◌≡◌, ◌≤◌, length, pos, IfOk};
 
 use catalogue::read_catalogue;
-use elements::{Instant, Window};
+use elements::{Instant, OutOfMemory, Window};
 use plan_core::{Plan, Planner, Table, TrackAnswer, timetable};
 use station_file::read_stations;
 use std::alloc::Global;
@@ -65,21 +65,46 @@ pub fn is_named(plan: &Plan, name: &[u8]) -> bool {
     plan.sats() > 0 && plan.sat(0).name.bytes() == name
 }
 
-/// How many spans its row at the first station has, if that is spans.
-pub fn spans_of(plan: &Plan) -> Option<u32> {
+/// Whether its row at the first station is fewer spans than this.
+pub fn has_fewer_spans(plan: &Plan, most: u32) -> bool {
     if plan.sats() == 0 || plan.stations() == 0 {
-        return None;
+        return false;
     }
     match plan.pair_row(0, 0) {
-        Some(TrackAnswer::Spans(track)) => Some(track.count()),
-        _ => None,
+        Some(TrackAnswer::Spans(track)) => track.count() < most,
+        _ => false,
     }
 }
 
-/// The timetable of the first station.
-pub fn table_of(alloc: Global, plan: &Plan) -> Option<Table> {
+/// How many contacts the timetable of the first station has.
+pub fn contacts_of(alloc: Global, plan: &Plan) -> Option<u32> {
     if plan.stations() == 0 {
         return None;
     }
-    timetable(alloc, plan, 0).ok()
+    match timetable(alloc, plan, 0) {
+        Ok(table) => Some(table.len()),
+        Err(OutOfMemory) => None,
+    }
+}
+
+/// Whether a contact of it is of this number, and begins and ends within a second of these.
+pub fn is_near(alloc: Global, plan: &Plan, k: u32, number: u32, from: u64, to: u64) -> bool {
+    if plan.stations() == 0 {
+        return false;
+    }
+    match timetable(alloc, plan, 0) {
+        Ok(table) => is_pass(&table, k, number, from, to),
+        Err(OutOfMemory) => false,
+    }
+}
+
+/// Whether a contact of a table is of this number, and begins and ends within a second of these.
+fn is_pass(table: &Table, k: u32, number: u32, from: u64, to: u64) -> bool {
+    if k >= table.len() {
+        return false;
+    }
+    let contact = table.contact(k);
+    contact.number == number
+        && contact.from.abs_diff(from) <= 10_000
+        && contact.to.abs_diff(to) <= 10_000
 }

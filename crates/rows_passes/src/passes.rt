@@ -1,8 +1,8 @@
 //! The passes of the day, against those from outside.
 use crate::day::{
-    is_accepted, is_named, plan_of_the_day, sats_of, spans_of, stations_of, table_of,
+    contacts_of, has_fewer_spans, is_accepted, is_named, is_near, plan_of_the_day, sats_of,
+    stations_of,
 };
-use plan_core::Table;
 use std::test::Fail;
 
 /// Where the passes begin and end, by `tools/plan/passes.py`.
@@ -14,17 +14,6 @@ const PASSES: [(u64, u64); 5] = [
     (456_413_365, 460_476_460),
 ];
 
-/// Whether a contact of a table is of the ISS, and begins and ends within a second of these.
-fn is_pass(table: &Table, k: u32, from: u64, to: u64) -> bool {
-    if k >= table.len() {
-        return false;
-    }
-    let contact = table.contact(k);
-    contact.number == 25544
-        && contact.from.abs_diff(from) <= 10_000
-        && contact.to.abs_diff(to) <= 10_000
-}
-
 #[test]
 fn five_passes_a_day_are_those_from_outside(rt: HostRuntime) -> Result<(), Fail> {
     let plan = plan_of_the_day(rt.alloc())?;
@@ -33,13 +22,11 @@ fn five_passes_a_day_are_those_from_outside(rt: HostRuntime) -> Result<(), Fail>
     assert!(rt; is_accepted(&plan));
     assert!(rt; is_named(&plan, b"ISS (ZARYA)"));
     assert!(rt; plan.whole());
-    let spans = spans_of(&plan).ok_or("spans")?;
-    assert!(rt; spans < 10_000);
-    let table = table_of(rt.alloc(), &plan).ok_or("a table")?;
-    assert_eq!(rt; table.len(), 5);
+    assert!(rt; has_fewer_spans(&plan, 10_000));
+    assert!(rt; contacts_of(rt.alloc(), &plan) == Some(5));
     let mut k = 0;
     for (from, to) in &PASSES {
-        assert!(rt; is_pass(&table, k, *from, *to), "{k}");
+        assert!(rt; is_near(rt.alloc(), &plan, k, 25544, *from, *to), "{k}");
         k = k.saturating_add(1);
     }
     Ok(())
