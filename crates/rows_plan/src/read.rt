@@ -1,4 +1,5 @@
-//! What is read of a plan. These functions promise nothing, so that a test that calls them knows nothing of the plan.
+//! What is read of a plan. These functions promise nothing, so that a test that calls them knows nothing of the plan; and a
+//! test asks no `?` once it has a plan, since each one lets the plan go in a place of its own.
 use elements::OutOfMemory;
 use plan_core::{Plan, Span, Table, TrackAnswer, timetable};
 use sgp4_shape::SatFault;
@@ -67,6 +68,14 @@ pub fn pair_of(plan: &Plan, sat: u32, station: u32) -> Option<&TrackAnswer> {
     plan.pair_row(sat, station)
 }
 
+/// How many ticks the stretch is long in which the row of a satellite at a station is unresolved.
+pub fn unresolved_for(plan: &Plan, sat: u32, station: u32) -> Option<u64> {
+    match pair_of(plan, sat, station) {
+        Some(TrackAnswer::Unresolved { from, to }) => Some(to.saturating_sub(*from)),
+        _ => None,
+    }
+}
+
 /// Whether the row of a satellite at a station is one span with this mark, of so many ticks from 0.
 pub fn is_one_span(plan: &Plan, sat: u32, station: u32, mark: Mark, ticks: u64) -> bool {
     if sat >= plan.sats() || station >= plan.stations() {
@@ -98,27 +107,40 @@ pub fn is_small(answer: &TrackAnswer) -> bool {
     }
 }
 
-/// The timetable of a station, if there is this one.
-pub fn table_of(alloc: Global, plan: &Plan, station: u32) -> Result<Option<Table>, OutOfMemory> {
+/// How many contacts the timetable of a station has, if there is this station and memory.
+pub fn contacts_of(alloc: Global, plan: &Plan, station: u32) -> Option<u32> {
     if station >= plan.stations() {
-        return Ok(None);
+        return None;
     }
-    Ok(Some(timetable(alloc, plan, station)?))
-}
-
-/// How many contacts the timetable of a station has, if there is this station.
-pub fn contacts_of(alloc: Global, plan: &Plan, station: u32) -> Result<Option<u32>, OutOfMemory> {
-    match table_of(alloc, plan, station)? {
-        Some(table) => Ok(Some(table.len())),
-        None => Ok(None),
+    match timetable(alloc, plan, station) {
+        Ok(table) => Some(table.len()),
+        Err(OutOfMemory) => None,
     }
 }
 
-/// Whether a contact of a table begins, ends and is of this number.
-pub fn is_contact(table: &Table, k: u32, from: u64, to: u64, number: u32) -> bool {
-    if k >= table.len() {
+/// Whether the timetable of a station is one contact, which begins, ends and is of this number.
+pub fn is_one_contact(
+    alloc: Global,
+    plan: &Plan,
+    station: u32,
+    from: u64,
+    to: u64,
+    number: u32,
+) -> bool {
+    if station >= plan.stations() {
         return false;
     }
-    let contact = table.contact(k);
+    match timetable(alloc, plan, station) {
+        Ok(table) => table.len() == 1 && is_contact(&table, from, to, number),
+        Err(OutOfMemory) => false,
+    }
+}
+
+/// Whether the first contact of a table begins, ends and is of this number.
+fn is_contact(table: &Table, from: u64, to: u64, number: u32) -> bool {
+    if table.len() == 0 {
+        return false;
+    }
+    let contact = table.contact(0);
     contact.from == from && contact.to == to && contact.number == number
 }

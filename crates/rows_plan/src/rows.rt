@@ -2,8 +2,8 @@
 use crate::calls::{plan_of, planner_of};
 use crate::given::{BORDERS, EQUATOR, POLES, an_hour, two_hours};
 use crate::read::{
-    contacts_of, is_accepted, is_contact, is_one_span, is_small, is_station, light_of, pair_of,
-    sats_of, stations_of, table_of,
+    contacts_of, is_accepted, is_one_contact, is_one_span, is_small, is_station, light_of, pair_of,
+    sats_of, stations_of, unresolved_for,
 };
 use plan_core::{Plan, TrackAnswer};
 use span_bisect::Mark;
@@ -31,10 +31,8 @@ fn a_pole_sees_the_equator_through_the_earth_alone(rt: HostRuntime) -> Result<()
         "the open mask"
     );
     assert!(rt; plan.cells() > 0);
-    assert!(rt; contacts_of(rt.alloc(), &plan, 0)? == Some(0));
-    let seen = table_of(rt.alloc(), &plan, 1)?.ok_or("a table")?;
-    assert_eq!(rt; seen.len(), 1);
-    assert!(rt; is_contact(&seen, 0, 0, 36_000_000, 90001));
+    assert!(rt; contacts_of(rt.alloc(), &plan, 0) == Some(0));
+    assert!(rt; is_one_contact(rt.alloc(), &plan, 1, 0, 36_000_000, 90001));
     Ok(())
 }
 
@@ -44,13 +42,9 @@ fn a_pass_along_the_borders_is_unresolved(rt: HostRuntime) -> Result<(), Fail> {
     let plan = plan_of(rt.alloc(), EQUATOR, BORDERS, two_hours())?;
     assert_eq!(rt; sats_of(&plan), 1);
     assert_eq!(rt; stations_of(&plan), 1);
-    let Some(TrackAnswer::Unresolved { from, to }) = pair_of(&plan, 0, 0) else {
-        assert!(rt; false, "unresolved");
-        return Ok(());
-    };
-    assert_eq!(rt; to.saturating_sub(*from), 10_001);
+    assert!(rt; unresolved_for(&plan, 0, 0) == Some(10_001));
     assert!(rt; !plan.whole());
-    assert!(rt; contacts_of(rt.alloc(), &plan, 0)? == Some(0));
+    assert!(rt; contacts_of(rt.alloc(), &plan, 0) == Some(0));
     Ok(())
 }
 
