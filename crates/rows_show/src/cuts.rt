@@ -148,7 +148,11 @@ const SHOWN_BEHIND: &[u8] = b" -0.000011606 ISS (ZARYA)\nEND\n";
 /// What is written of a beginning with this fault, or with this mean anomaly.
 fn written(alloc: Global, found: &str, is_fault: bool) -> Result<Vec<u8>, AllocError> {
     let mut bytes = Vec::new(alloc);
-    bytes.extend_from_slice(if is_fault { b"error catalogue " } else { SHOWN_BEFORE })?;
+    bytes.extend_from_slice(if is_fault {
+        b"error catalogue "
+    } else {
+        SHOWN_BEFORE
+    })?;
     bytes.extend_from_slice(found.as_bytes())?;
     bytes.extend_from_slice(if is_fault { b"\n" } else { SHOWN_BEHIND })?;
     Ok(bytes)
@@ -161,7 +165,15 @@ fn each_beginning_of_a_message_is_a_message_or_has_a_fault(rt: HostRuntime) -> R
         let is_fault = !found.starts_with("3");
         let wanted = written(rt.alloc(), found, is_fault)?;
         let status = if is_fault { 4 } else { 0 };
-        cuts(STATION_WORDS, MESSAGE, from, *last, wanted.as_slice(), status, &rt)?;
+        cuts(
+            STATION_WORDS,
+            MESSAGE,
+            from,
+            *last,
+            wanted.as_slice(),
+            status,
+            &rt,
+        )?;
         from = last.saturating_add(1);
     }
     assert_eq!(rt; from, MESSAGE.len() + 1, "the whole message");
