@@ -9,6 +9,8 @@ the top of the repository, python3 tools/catalogue/expected.py, and then rt fmt 
 import re
 from datetime import datetime
 
+from entries import entries
+
 MASK = (1 << 64) - 1
 FILES = 2_000
 GROUP = 100
@@ -106,17 +108,13 @@ def two_line_sets(lines):
 
 def of_message(lines):
     values = {}
-    for number, line in enumerate(lines, 1):
-        line = line.strip(" \t\r")
-        if not line or re.match(r"COMMENT($|[ \t])", line):
-            continue
-        entry = re.match(r"([A-Z0-9_]+)[ \t]*=[ \t]*(.*)$", line)
-        if not entry:
+    for number, keyword, value in entries(lines):
+        if keyword is None:
             raise Fault(11, number)
-        if entry[1] in values:
-            raise Fault(12, KEYS.index(entry[1]))
-        if entry[1] in KEYS:
-            values[entry[1]] = entry[2]
+        if keyword in values:
+            raise Fault(12, KEYS.index(keyword))
+        if keyword in KEYS:
+            values[keyword] = value
     for key in KEYS:
         if key not in values and key != "OBJECT_NAME":
             raise Fault(14, KEYS.index(key))

@@ -7,27 +7,11 @@ share nothing with the program. Run it as python3 tools/catalogue/prefixes.py
 import re
 from datetime import datetime
 from decimal import Decimal
+from pathlib import Path
 
-MESSAGE = """CCSDS_OMM_VERS = 2.0
-COMMENT keywords in another order
-CREATION_DATE = 2008-09-21T00:00:00
-ORIGINATOR =
-OBJECT_NAME = ISS (ZARYA)
-OBJECT_ID = 1998-067A
-CENTER_NAME = EARTH
-REF_FRAME = TEME
-TIME_SYSTEM = UTC
-MEAN_ELEMENT_THEORY = SGP4
-BSTAR = -.11606E-4 [1/ER]
-EPOCH = 2008-09-20T12:25:40.104192
-NORAD_CAT_ID = 25544
-MEAN_MOTION = 15.72125391 [rev/day]
-ECCENTRICITY = 0.0006703
-INCLINATION = 51.6416 [deg]
-RA_OF_ASC_NODE = 247.4627 [deg]
-ARG_OF_PERICENTER = 130.5360 [deg]
-MEAN_ANOMALY = 325.0288 [deg]
-"""
+from entries import entries
+
+FILES = Path(__file__).resolve().parents[2] / "crates/rows_show/src/files.rt"
 WORDS = {
     "CCSDS_OMM_VERS": ("2.0", "3.0"), "CENTER_NAME": ("EARTH",), "REF_FRAME": ("TEME",), "TIME_SYSTEM": ("UTC",),
     "MEAN_ELEMENT_THEORY": ("SGP4", "SGP/SGP4"),
@@ -74,14 +58,10 @@ def answer(text):
     if not text.startswith("CCSDS_OMM_VERS"):
         return "odd 1"
     values = {}
-    for number, line in enumerate(lines, 1):
-        line = line.strip(" \t\r")
-        if not line or re.match(r"COMMENT($|[ \t])", line):
-            continue
-        entry = re.match(r"([A-Z0-9_]+)[ \t]*=[ \t]*(.*)$", line)
-        if not entry:
+    for number, keyword, value in entries(lines):
+        if keyword is None:
             return "set 1 omm line %d" % number
-        values[entry[1]] = entry[2]
+        values[keyword] = value
     for key in ORDER:
         if key not in values:
             if key not in OPTIONAL:
@@ -94,10 +74,16 @@ def answer(text):
     return format(number_in(values["MEAN_ANOMALY"]).normalize(), "f")
 
 
+def message():
+    """The message of the test, whose beginnings are meant."""
+    found = re.search(r'MESSAGE: &\[u8\] =\s*b"([^"]*)"', FILES.read_text(encoding="utf-8"))
+    return found[1].replace("\\n", "\n")
+
+
 def main():
-    rows = []
-    for length in range(len(MESSAGE) + 1):
-        found = answer(MESSAGE[:length])
+    text, rows = message(), []
+    for length in range(len(text) + 1):
+        found = answer(text[:length])
         if rows and rows[-1][1] == found:
             rows[-1][0] = length
         else:

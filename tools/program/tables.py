@@ -45,6 +45,7 @@ def prefix(line):
 
 # scripts that print rows: the file, which of the lines are rows, and a row in the form of the file
 PRINTERS = {
+    "tools/catalogue/prefixes.py": ("rows_show/src/cuts.rt", lambda line: True, lambda line: line),
     "tools/numbers/root_digests.py": ("rows_roots/src/classes.rt", lambda line: True, lambda line: line),
     "tools/grid/sets.py": ("rows_grid/src/sets.rt", lambda line: True, lambda line: line),
     "tools/pairs/expected.py": ("rows_cells/src/pairs.rt", lambda line: True, lambda line: line),
@@ -97,7 +98,7 @@ def main():
         for script, crate in WRITERS.items():
             found.append(is_written_alike(script, crate, folder))
         for script, about in PRINTERS.items():
-            if script.endswith("prefixes.py") and importlib.util.find_spec("tomllib") is None:
+            if script == "tools/stations/prefixes.py" and importlib.util.find_spec("tomllib") is None:
                 print(f"{script} is left out: this Python has no tomllib")
                 continue
             found.append(is_printed_alike(script, *about, folder))
