@@ -5,7 +5,7 @@ use Rattle.exact.specs.Interval.{Coef, number_of, Interval, Inside}
 use Rattle.exact.proofs.RationalRing.{ring, reads}
 use Rattle.exact.proofs.Order.{NonNeg, gap, known, le_by, same_sign, ◌⊗◌}
 use Rattle.exact.proofs.Bounds.{neg_le_neg}
-use Rattle.exact.proofs.Strict.{Positive, mul_inverse, not_both, not_zero, positive_sum}
+use Rattle.exact.proofs.Strict.{Positive, mul_inverse, not_both, not_zero, positive_sum, positive_above}
 use Rattle.exact.proofs.Integers.{ratio_is_product, ratio_neg}
 use Rattle.fixed_iv.specs.Reach.{coef_inverse, interval_inverse}
 use Rattle.fixed_iv.proofs.QuotientLemmas.{cancel, unit_ratio}
@@ -68,9 +68,6 @@ inverse_neg x p =
   where
     nonzero : ¬ (x ≡ zero_ℚ)
     nonzero e = not_zero p (ap neg_ℚ e ∙ ring [] (search reads depth 90) tt)
-
-positive_above : {l x : ℚ} → Positive l → l ≤ℚ x → Positive x
-positive_above {l} {x} p h = subst Positive (ring (l ∷ x ∷ []) (search reads depth 90) tt) (positive_sum p (gap h))
 
 -- above 0, or below it
 abbrev pub IsOneSided : Interval → Type 0

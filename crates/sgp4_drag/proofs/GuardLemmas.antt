@@ -8,6 +8,7 @@ use Rattle.exact.proofs.Integers.{of_int_is, of_int_le}
 use Rattle.exact.proofs.Order.{gap, known, le_by, le_trans, ◌⊕◌, ◌⊗◌}
 use Rattle.exact.proofs.RationalRing.{reads}
 use Rattle.exact.proofs.Strict.{lt_by, positive_known, positive_sum}
+use Rattle.exact.proofs.Tests.{by_test, clash}
 use Rattle.fixed_iv.specs.Ends.{in_units}
 use Rattle.fixed_iv.specs.Holds.{Holds}
 use Rattle.fixed_iv.specs.declared.iv.Iv.{Iv}
@@ -42,14 +43,6 @@ unfolding number ratio
 one_above n h = le_of_cross (record { num = pos 1; den = 1; fits = zero-lt-suc 0 }) (record { num = n; den = 281474976710656; fits = zero-lt-suc 281474976710655 }) (omega (arith, ints, h))
 
 -- ---- the eccentricity
-by_test : {P : Type 0} (t : Bool) → (T t → P) → (T (not t) → P) → P
-by_test true f g = f tt
-by_test false f g = g tt
-
-clash : (t : Bool) → T t → T (not t) → ⊥
-clash true f g = g
-clash false f g = f
-
 below_one : (n : ℤ) → n <ℤ pos 281474976710656 → ratio n (2 ^ 48) <ℚ one_ℚ
 below_one n h = by_test (at_least_0 (ratio n (2 ^ 48) -ℚ one_ℚ)) (λ t. absurd (apart (one_below n (record { le = t })))) (λ t. record { lt = t })
   where

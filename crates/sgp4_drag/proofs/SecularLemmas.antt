@@ -4,6 +4,7 @@ use Rattle.exact.specs.Rational.{ℚ, ◌+ℚ◌, ◌-ℚ◌, ◌*ℚ◌, ◌^�
 use Rattle.exact.proofs.RationalRing.{ring, reads}
 use Rattle.exact.proofs.Order.{le_refl}
 use Rattle.exact.proofs.Strict.{le_of_lt}
+use Rattle.exact.proofs.Tests.{by_test}
 use Rattle.fixed_iv.specs.Arithmetic.{exact}
 use Rattle.fixed_iv.specs.Common.{IsGreater}
 use Rattle.sgp4_model.specs.MeanElements.{least_ecc}
@@ -40,10 +41,6 @@ module _ (x : ℚ) where
 
 pub square_is : (a b : ℚ) → semimajor_axis exact a b ≡ a *ℚ b ^ℚ 2
 square_is a b = ring (a ∷ b ∷ []) (search reads depth 40) tt
-
-by_test : {P : Type 0} (t : Bool) → (T t → P) → (T (not t) → P) → P
-by_test true f g = f tt
-by_test false f g = g tt
 
 -- the raised eccentricity is the greater of the two
 pub raised_is : (x z : ℚ) → (least_ecc ≤ℚ x → z ≡ x) → (x <ℚ least_ecc → z ≡ least_ecc) → IsGreater x least_ecc z

@@ -3,6 +3,7 @@ use Rattle.std.proofs.Common.{◌≡◌, ◌∙◌, ◌⊎◌, inl, inr, Bool, t
 use Rattle.exact.specs.Rational.{ℚ, ratio, at_least_0, neg_ℚ, ◌+ℚ◌, ◌-ℚ◌, ◌*ℚ◌, ◌/ℚ◌, ◌^ℚ◌, one_ℚ, zero_ℚ, ◌≤ℚ◌, ◌<ℚ◌}
 use Rattle.exact.proofs.RationalRing.{ring, reads}
 use Rattle.exact.proofs.Strict.{Positive, not_zero, positive_gap, positive_known, positive_product, positive_sum, positive_weak}
+use Rattle.exact.proofs.Tests.{by_test}
 use Rattle.sgp4_model.specs.Angle.{IsPi}
 use Rattle.sgp4_model.specs.Coefficients.{CoefficientRecord, IsRemainingCoefficients}
 use Rattle.sgp4_model.specs.Degrees.{radians}
@@ -35,10 +36,6 @@ eccentric_positive {e} h = subst Positive (ring (e ∷ []) {x = e -ℚ near_circ
 record IsChosen (bound e x y : ℚ) : Type 0 where
   where_above : bound <ℚ e → y ≡ x
   where_not : e ≤ℚ bound → y ≡ zero_ℚ
-
-by_test : {P : Type 0} (t : Bool) → (T t → P) → (T (not t) → P) → P
-by_test true f g = f tt
-by_test false f g = g tt
 
 -- there is such a number
 chosen : (bound e x : ℚ) → (y : ℚ) × IsChosen bound e x y

@@ -4,14 +4,11 @@ use Rattle.exact.specs.Rational.{ℚ, ◌*ℚ◌, ◌-ℚ◌, at_least_0, ◌≤
 use Rattle.exact.proofs.RationalRing.{ring, reads}
 use Rattle.exact.proofs.Order.{NonNeg, ◌⊕◌, ◌⊗◌, gap, known, same_sign}
 use Rattle.exact.proofs.Strict.{Positive, positive_gap, positive_product, positive_sum, positive_weak, not_both}
+use Rattle.exact.proofs.Tests.{by_test}
 
 -- an inequality, or the strict one the other way
 pub by_order : {P : Type 0} (x y : ℚ) → (x ≤ℚ y → P) → (y <ℚ x → P) → P
 by_order {P} x y f g = by_test (at_least_0 (y -ℚ x)) (λ h. f (record { le = h })) (λ h. g (record { lt = h }))
-  where
-    by_test : (t : Bool) → (T t → P) → (T (not t) → P) → P
-    by_test true h k = h tt
-    by_test false h k = k tt
 
 -- where b is not negative, a number with at most its square is at most b
 pub le_of_squares : {a b : ℚ} → NonNeg b → a *ℚ a ≤ℚ b *ℚ b → a ≤ℚ b

@@ -5,6 +5,7 @@ use Rattle.exact.proofs.RationalRing.{ring, reads}
 use Rattle.exact.proofs.Order.{gap, known, le_by, same_sign, ◌⊕◌, ◌⊗◌}
 use Rattle.exact.proofs.Bounds.{le_total}
 use Rattle.exact.proofs.Strict.{le_of_lt, not_both, positive_gap}
+use Rattle.exact.proofs.Tests.{by_test}
 use Rattle.sgp4_model.specs.Angle.{IsPi, IsSinCos, Pair}
 use Rattle.sgp4_model.specs.Degrees.{IsPairOfDegrees, radians}
 use Rattle.sgp4_model.specs.MaskLaws.{AreRound, GoRound, SomeBorder, SomeSectorHolds}
@@ -14,10 +15,6 @@ use Rattle.sgp4_model.specs.Sectors.{AreMaskPairs, SectorPairs, past}
 use Rattle.sgp4_model.specs.Sight.{SightRecord}
 use Rattle.sgp4_model.proofs.FacingLemmas.{Leans, plus_0, plus_1, plus_2, plus_3, plus_4, minus_0, minus_1, minus_2, minus_3, minus_4}
 use Rattle.sgp4_model.proofs.SectorLemmas.{some_sector_holds_between}
-
-by_test : {A : Type 0} (t : Bool) → (T t → A) → (T (not t) → A) → A
-by_test true f g = f tt
-by_test false f g = g tt
 
 by_less : {A : Type 0} (x y : ℚ) → (x ≤ℚ y → A) → (y <ℚ x → A) → A
 by_less x y f g = by_test (at_least_0 (y -ℚ x)) (λ t. f (record { le = t })) (λ t. g (record { lt = t }))

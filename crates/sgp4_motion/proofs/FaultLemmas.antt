@@ -5,12 +5,9 @@ use Rattle.exact.proofs.RationalRing.{reads}
 use Rattle.exact.proofs.Order.{le_by, le_trans, gap}
 use Rattle.exact.proofs.Bounds.{abs_le, le_abs, neg_le_abs}
 use Rattle.exact.proofs.Strict.{lt_by, positive_gap}
+use Rattle.exact.proofs.Tests.{by_test}
 use Rattle.decimals.specs.OrderLaws.{lt_of_not_le, not_le}
 use Rattle.sgp4_model.specs.Numerals.{decimal}
-
-by_test : {P : Type 0} (t : Bool) → (T t → P) → (T (not t) → P) → P
-by_test true f g = f tt
-by_test false f g = g tt
 
 pub lt_le : {x y z : ℚ} → x <ℚ y → y ≤ℚ z → x <ℚ z
 lt_le {x} {y} {z} h k = lt_of_not_le x z (λ l. not_le x y h (le_trans k l))

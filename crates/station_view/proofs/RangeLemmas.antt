@@ -4,6 +4,7 @@ use Rattle.std.proofs.lemmas.Int.{ints, by_lt_z}
 use native.Mathlib.Nat.{zero-lt-suc}
 use Rattle.exact.specs.Rational.{ratio, number, ◌≤ℚ◌, ◌<ℚ◌, ◌-ℚ◌, at_least_0}
 use Rattle.exact.proofs.Fractions.{le_of_cross, cross_of_le}
+use Rattle.exact.proofs.Tests.{by_test, clash}
 
 least_above : (n : ℤ) → n ≤ℤ pos 68719476736 → ratio n (2 ^ 48) ≤ℚ ratio (pos 1) 4096
 unfolding number ratio
@@ -16,14 +17,6 @@ not_above n h =
   where
     by_cross : (n : ℤ) → (n *ℤ pos 4096) ≤ℤ (pos 1 *ℤ pos 281474976710656) → n ≤ℤ pos 68719476736
     by_cross n h = omega (arith, ints, h)
-
-by_test : {P : Type 0} (t : Bool) → (T t → P) → (T (not t) → P) → P
-by_test true f g = f tt
-by_test false f g = g tt
-
-clash : (t : Bool) → T t → T (not t) → ⊥
-clash true f g = g
-clash false f g = f
 
 pub above_4096th : (n : ℤ) → pos 68719476736 <ℤ n → ratio (pos 1) 4096 <ℚ ratio n (2 ^ 48)
 above_4096th n h = by_test (at_least_0 (ratio (pos 1) 4096 -ℚ ratio n (2 ^ 48))) (λ t. absurd (apart (not_above n (record { le = t })))) (λ t. record { lt = t })
