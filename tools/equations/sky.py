@@ -196,12 +196,14 @@ class Comparison:
         for record, field, bound in [("GrazesShadow", "given", Fraction(1, 1000)), ("GrazesShadow", "sharp", Fraction(1, 2**13)),
                                      ("GrazesHorizon", "given", Fraction(1, 1000)), ("GrazesHorizon", "sharp", Fraction(1, 2**23))]:
             for value, outcome in [(bound, True), (-bound, True), (bound + SMALL, False), (-bound - SMALL, False)]:
-                held = {"v": Quantities("ShadowRecord", dict(p=Fraction(9), g=value)), "product": value}
+                held = {"v": Quantities("ShadowRecord", dict(p=Fraction(-9), g=value)), "product": value}
                 self.field(maker, record, field, held, outcome)
-        for name, of_bound in [("GrazesShadow", lambda g: Quantities("ShadowRecord", dict(p=Fraction(9), g=g))), ("GrazesHorizon", lambda g: g)]:
+        for name, of_bound in [("GrazesShadow", lambda g: Quantities("ShadowRecord", dict(p=Fraction(-9), g=g))), ("GrazesHorizon", lambda g: g)]:
             bound = Fraction(1, 2**13) if name == "GrazesShadow" else Fraction(1, 2**23)
             self.is_said(maker, name, [of_bound(bound)], True)
             self.is_said(maker, name, [of_bound(-bound - SMALL)], False)
+        for depth, outcome in [(-SMALL, True), (Fraction(0), False), (SMALL, False)]:
+            self.is_said(maker, "GrazesShadow", [Quantities("ShadowRecord", dict(p=depth, g=Fraction(0)))], outcome)
 
 
 def run(texts, cases):

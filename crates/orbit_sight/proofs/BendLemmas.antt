@@ -6,7 +6,8 @@ use Rattle.exact.specs.Interval.{Inside, between}
 use Rattle.exact.proofs.Intervals.{inside}
 use Rattle.exact.proofs.Order.{NonNeg, gap, known, le_by, not_negative, ◌⊕◌, ◌⊗◌}
 use Rattle.exact.proofs.RationalRing.{ring, reads}
-use Rattle.exact.proofs.Strict.{Positive, le_of_lt, le_quotient, mul_inverse, not_zero, positive_known, positive_sum, quotient_le}
+use Rattle.exact.proofs.Strict.{Positive, le_of_lt, le_quotient, mul_inverse, not_zero, positive_known, positive_sum, quotient_le, positive_above}
+use Rattle.exact.proofs.Tests.{by_test}
 use Rattle.sgp4_model.specs.Angle.{IsNear}
 use Rattle.sgp4_model.specs.Constants.{InitRecord, IsConsts}
 use Rattle.sgp4_model.specs.Drag.{near_circle}
@@ -28,13 +29,6 @@ small {b} {x} l h = record {
   above = le_by (b ∷ x ∷ []) (gap h) (search reads depth 90) tt;
   below = le_by (b ∷ x ∷ []) (gap h ⊕ not_negative l ⊕ not_negative l) (search reads depth 90) tt;
 }
-
-positive_above : {l x : ℚ} → Positive l → l ≤ℚ x → Positive x
-positive_above {l} {x} p h = subst Positive (ring (l ∷ x ∷ []) (search reads depth 90) tt) (positive_sum p (gap h))
-
-by_test : {P : Type 0} (t : Bool) → (T t → P) → (T (not t) → P) → P
-by_test true f g = f tt
-by_test false f g = g tt
 
 -- ---- the term of the density, of x as 1 / (a - s)
 radius_inverse : inverse earth_radius_km ≡ ratio (pos 1000) 6378135

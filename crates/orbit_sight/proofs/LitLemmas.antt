@@ -1,12 +1,14 @@
 -- The shadow's numbers of lit solutions: how large they are, and what bounds around 0 say of them.
 use Rattle.std.proofs.Common.{◌≡◌, [], ◌∷◌, arith, sym, subst, ap, ◌∙◌, ◌^◌, ◌*◌, ◌+◌, ◌-◌, ◌<◌, ◌≤◌, ℕ, ℤ, pos, negsuc, ◌≤ℤ◌, ◌<ℤ◌, ◌⊎◌, inl, inr, ⊎_elim}
 use Rattle.std.proofs.lemmas.Int.{ints}
-use Rattle.exact.specs.Rational.{ℚ, ◌+ℚ◌, ◌-ℚ◌, ◌*ℚ◌, ◌^ℚ◌, of_int, one_ℚ, ratio, zero_ℚ, ◌≤ℚ◌}
+use Rattle.exact.specs.Rational.{ℚ, ◌+ℚ◌, ◌-ℚ◌, ◌*ℚ◌, ◌^ℚ◌, of_int, one_ℚ, ratio, zero_ℚ, at_least_0, ◌≤ℚ◌, ◌<ℚ◌}
 use Rattle.exact.proofs.Bounds.{square}
 use Rattle.exact.proofs.Integers.{of_int_is, of_int_le, le_of_int}
 use Rattle.exact.specs.Interval.{Inside, Interval, between}
 use Rattle.exact.proofs.Intervals.{inside}
-use Rattle.exact.proofs.Order.{◌⊕◌, ◌⊗◌, gap, known, le_by, le_trans}
+use Rattle.exact.proofs.Order.{◌⊕◌, ◌⊗◌, gap, known, le_by, le_trans, same_sign}
+use Rattle.exact.proofs.Strict.{not_both, positive_known}
+use Rattle.exact.proofs.Tests.{by_test}
 use Rattle.exact.proofs.RationalRing.{ring, reads}
 use Rattle.fixed_iv.specs.Ends.{in_units}
 use Rattle.earth_frame.specs.Spread.{IsSpreadWithin}
@@ -114,11 +116,29 @@ height_reaches_0 {p} {g} {v} b w l u bg hp hg far =
     let above : of_int (pos 0) ≤ℚ in_units v.g = rw (of_int_is (pos 0)) (le_by (v.p ∷ v.g ∷ []) (known 281474976710656 1 ⊗ (gap far ⊕ gap high ⊗ gap low ⊕ known 59 1000)) (search reads depth 90) tt) in
     le_of_int (le_trans above (hg.high bg.high))
 
+-- such a depth, where it is not above 0 for certain, is small
+low_depth : {p : Iv} (x : ℚ) → IsBounded p → width_of p ≤ 2147483648 → p.lo ≤ℤ pos 0 → Holds p x → x ≤ℚ ratio (pos 1) 100
+low_depth {p} x b w l h =
+    let most : of_int p.hi ≤ℚ ratio (pos 2147483648) 1 = rw (← of_int_is (pos 2147483648)) (of_int_le (omega (arith, ints, w, l, width_is p))) in
+    le_by (of_int p.hi ∷ x ∷ []) (known 1 281474976710656 ⊗ (gap most ⊕ gap (h.high b.high)) ⊕ known 130972 13107200) (search reads depth 90) tt
+
+-- what is far out and near the cylinder's edge is then behind the centre
+behind_the_centre : (v : ShadowRecord) → ratio (pos 1069) 1000 ≤ℚ square_of v → IsNear (ratio (pos 1) 1000) v.g zero_ℚ →
+    v.p ≤ℚ ratio (pos 1) 100 → v.p <ℚ zero_ℚ
+behind_the_centre v far near small = record { lt = by_test (at_least_0 (v.p -ℚ zero_ℚ)) (λ t. absurd (apart (record { le = t }))) (λ t. t) }
+  where
+    apart : zero_ℚ ≤ℚ v.p → ⊥
+    apart h =
+        not_both (positive_known 678 10000)
+        (same_sign (ring (v.p ∷ v.g ∷ []) (search reads depth 120) tt)
+        (gap far ⊕ gap near.above ⊕ gap small ⊗ gap h ⊕ known 1 100 ⊗ gap small))
+
 -- so numbers whose bounds are narrow and decide nothing graze the shadow
 pub undecided_grazes : {shade : Shade Iv} {v : ShadowRecord} → AreNarrow shade → IsUndecided shade → HoldShadow shade v → ratio (pos 1069) 1000 ≤ℚ square_of v → GrazesShadow v
 undecided_grazes {shade} {v} narrow open_ h far =
     let near = near_height narrow.g.bounded (omega (arith, narrow.g.width)) open_.g_reaches_0 (⊎_elim open_.not_both_below around (sign shade.p.hi)) h.g in
-    record { given = near.0; sharp = near.1 }
+    let small = low_depth v.p narrow.p.bounded (omega (arith, narrow.p.width)) open_.p_reaches_0 h.p in
+    record { behind = behind_the_centre v far near.0 small; given = near.0; sharp = near.1 }
   where
     sign : (z : ℤ) → (z <ℤ pos 0) ⊎ (pos 0 ≤ℤ z)
     sign (pos n) = inr (omega (arith, ints))

@@ -4,7 +4,7 @@ use Rattle.exact.specs.Rational.{ℚ, ◌+ℚ◌, ◌-ℚ◌, ◌*ℚ◌, ◌/�
 use Rattle.exact.proofs.RationalRing.{Sides, difference, ring, reads}
 use Rattle.exact.proofs.Order.{◌⊕◌, ◌⊗◌, gap, known, le_by, not_negative}
 use Rattle.exact.proofs.Bounds.{by_sign, square}
-use Rattle.exact.proofs.Strict.{Positive, positive_known, positive_sum, le_quotient, quotient_le}
+use Rattle.exact.proofs.Strict.{Positive, positive_known, positive_sum, le_quotient, quotient_le, positive_above}
 use Rattle.exact.specs.Interval.{Inside, Interval, between}
 use Rattle.exact.proofs.Intervals.{AllInside, NotBelow0, inside, le_on, range}
 use Rattle.sgp4_model.specs.Angle.{IsNear, part}
@@ -61,10 +61,6 @@ on m d n e is xs h s low t high = inside m d n e (le_on (10 ^ 30) is xs h s low)
 pub ends : (m : ℤ) (d : ℕ) (n : ℤ) (e : ℕ) {x : ℚ} → Inside (between m d n e) x → (ratio m d ≤ℚ x) × (x ≤ℚ ratio n e)
 unfolding ratio
 ends m d n e h = (h.low, h.high)
-
--- what is at least a positive number is positive
-pub positive_above : {l x : ℚ} → Positive l → l ≤ℚ x → Positive x
-positive_above {l} {x} p h = subst Positive (ring (l ∷ x ∷ []) (search reads depth 90) tt) (positive_sum p (gap h))
 
 -- the reciprocal of a number that is at least 1
 pub reciprocal_inside : {y : ℚ} → one_ℚ ≤ℚ y → Inside reciprocal (inverse y)

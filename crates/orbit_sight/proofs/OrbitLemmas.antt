@@ -8,6 +8,7 @@ use Rattle.exact.proofs.Intervals.{inside, le_on}
 use Rattle.exact.proofs.Order.{gap, known, le_by, le_trans, ◌⊕◌, ◌⊗◌}
 use Rattle.exact.proofs.RationalRing.{ring, reads}
 use Rattle.exact.proofs.Strict.{lt_by, positive_known, positive_sum}
+use Rattle.exact.proofs.Tests.{by_test}
 use Rattle.enc_plain.specs.declared.plain.Plain.{Plain}
 use Rattle.enc_plain.proofs.PlainHeld.{middle}
 use Rattle.fixed_iv.specs.Reach.{turn_range, turned}
@@ -98,10 +99,6 @@ raised : (e loss ecc m : ℚ) → zero_ℚ ≤ℚ e → IsNear (ratio (pos 7) 10
     (least_ecc ≤ℚ m) × (m ≤ℚ e +ℚ ratio (pos 7) 10000)
 raised e loss ecc m low near is above below = by_test (at_least_0 (ecc -ℚ least_ecc)) (λ t. kept (record { le = t })) (λ t. least (record { lt = t }))
   where
-    by_test : {P : Type 0} (t : Bool) → (T t → P) → (T (not t) → P) → P
-    by_test true f g = f tt
-    by_test false f g = g tt
-
     kept : least_ecc ≤ℚ ecc → (least_ecc ≤ℚ m) × (m ≤ℚ e +ℚ ratio (pos 7) 10000)
     kept h = rw (above h) (h, rw is (le_by (e ∷ loss ∷ []) (gap near.below) (search reads depth 90) tt))
 

@@ -3,7 +3,7 @@ use Rattle.std.proofs.Common.{◌≡◌, ◌∙◌, ap, sym, subst, inl, inr, Li
 use Rattle.exact.specs.Rational.{ℚ, of_int, neg_ℚ, ratio, zero_ℚ, ◌+ℚ◌, ◌-ℚ◌, ◌*ℚ◌, ◌/ℚ◌, ◌≤ℚ◌, ◌<ℚ◌}
 use Rattle.exact.proofs.Order.{gap, known, le_by, ◌⊕◌, ◌⊗◌}
 use Rattle.exact.proofs.RationalRing.{ring, reads}
-use Rattle.exact.proofs.Strict.{Positive, lt_by, positive_known, positive_sum, quotient_le}
+use Rattle.exact.proofs.Strict.{lt_by, positive_above, positive_known, positive_sum, quotient_le}
 use Rattle.decimals.specs.Decimal.{value}
 use Rattle.fixed_iv.specs.Place.{Place, on_line}
 use Rattle.fixed_iv.specs.declared.enc.Enc.{Ghosts}
@@ -97,15 +97,12 @@ grazes_more {b} {c} sectors v h g = record {
 }
 
 -- ---- the range of a solution
-positive_above : {x : ℚ} → ratio (pos 323) 10000 ≤ℚ x → Positive x
-positive_above {x} h = subst Positive (ring (x ∷ []) (search reads depth 90) tt) (positive_sum (positive_known 322 10000) (gap h))
-
 range_positive : (x : ℚ) → ratio (pos 323) 10000 ≤ℚ x → zero_ℚ <ℚ x
 range_positive x h = lt_by (x ∷ []) (positive_sum (positive_known 322 10000) (gap h)) (search reads depth 90) tt
 
 -- 2^-15 Earth radii are seen below 0.001 there
 small_at : (x : ℚ) → ratio (pos 323) 10000 ≤ℚ x → part 15 /ℚ x ≤ℚ decimal 1 3
-small_at x h = quotient_le (positive_above h) (le_by (x ∷ []) (known 1 1000 ⊗ gap h ⊕ known 4563 2560000000) (search reads depth 90) tt)
+small_at x h = quotient_le (positive_above (positive_known 322 10000) h) (le_by (x ∷ []) (known 1 1000 ⊗ gap h ⊕ known 4563 2560000000) (search reads depth 90) tt)
 
 module _ {A : Type 0} (E : Ghosts A) (law : Contained E.covers E.extent) (set : SetRecord) (dut1 : ℤ) (cell : CellRecord) (scene : Scene A) (station : Station) (covered : CoversScene set dut1 cell E scene)
     (exists : EachPlaceHasAPosition set cell) (far : EachPositionIsFarOut set cell) where

@@ -6,7 +6,7 @@ use Rattle.exact.specs.Interval.{Inside, between}
 use Rattle.exact.proofs.Intervals.{inside, le_on}
 use Rattle.exact.proofs.Order.{gap, known, le_by, ◌⊕◌, ◌⊗◌}
 use Rattle.exact.proofs.RationalRing.{ring, reads}
-use Rattle.exact.proofs.Strict.{Positive, le_quotient, lt_by, not_zero, positive_known, positive_product, positive_sum, quotient_le}
+use Rattle.exact.proofs.Strict.{Positive, le_quotient, lt_by, not_zero, positive_known, positive_product, positive_sum, quotient_le, positive_above}
 use Rattle.elements.specs.Elements.{ElementsRecord, IsElements, record_of_elements}
 use Rattle.enc_plain.specs.declared.plain.Plain.{Plain}
 use Rattle.enc_plain.proofs.PlainHeld.{middle}
@@ -41,9 +41,6 @@ divisor m = m.am *ℚ (one_ℚ -ℚ m.em ^ℚ 2)
 product_above : (a f e : ℚ) → Inside (between (pos 10470) 10000 (pos 19214) 10000) a → Inside (between (pos 998) 1000 (pos 1002) 1000) f → Inside (between (pos 0) 10000 (pos 2007) 10000) e → one_ℚ ≤ℚ a *ℚ f ^ℚ 2 *ℚ (one_ℚ -ℚ e ^ℚ 2)
 product_above a f e i j k =
     le_on (10 ^ 30) (between (pos 10470) 10000 (pos 19214) 10000 ∷ between (pos 998) 1000 (pos 1002) 1000 ∷ between (pos 0) 10000 (pos 2007) 10000 ∷ []) (a ∷ f ∷ e ∷ []) (i, (j, (k, tt))) (search reads depth 120) tt
-
-positive_above : {l x : ℚ} → Positive l → l ≤ℚ x → Positive x
-positive_above {l} {x} p h = subst Positive (ring (l ∷ x ∷ []) (search reads depth 90) tt) (positive_sum p (gap h))
 
 -- a small number stays small over a divisor of at least 1
 part_inside : (a y : ℚ) → one_ℚ ≤ℚ y → IsNear (ratio (pos 1173) 1000000) a zero_ℚ → Inside (between (negsuc 1173) 1000000 (pos 1174) 1000000) (one_ℚ /ℚ y *ℚ a)

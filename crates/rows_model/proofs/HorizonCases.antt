@@ -42,13 +42,17 @@ shadow_rows = record {
   edge_is_not_dark = λ h. absurd h.inside.lt;
   level_is_not_dark = λ h. absurd h.behind.lt;
   near_above = record {
+    behind = record { lt = tt };
     given = record { above = record { le = tt }; below = record { le = tt } };
     sharp = record { above = record { le = tt }; below = record { le = tt } };
   };
   near_below = record {
+    behind = record { lt = tt };
     given = record { above = record { le = tt }; below = record { le = tt } };
     sharp = record { above = record { le = tt }; below = record { le = tt } };
   };
   far_above = λ h. absurd h.sharp.above.le;
   far_below = λ h. absurd h.sharp.below.le;
+  before_does_not_graze = λ h. absurd h.behind.lt;
+  level_does_not_graze = λ h. absurd h.behind.lt;
 }

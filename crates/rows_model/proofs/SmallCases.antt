@@ -1,14 +1,17 @@
 -- The small cases, one by one.
-use Rattle.std.proofs.Common.{arith, ◌≡◌, ◌+◌, List, [], ◌∷◌, length, refl, pos}
+use Rattle.std.proofs.Common.{arith, ◌≡◌, ◌∙◌, ◌+◌, ◌<◌, ℕ, List, [], ◌∷◌, length, refl, sym, pos}
+use Rattle.std.proofs.lemmas.Int.{ints}
 use Rattle.std.proofs.lemmas.List.Elements.{All-nil}
 use Rattle.exact.specs.Rational.{◌+ℚ◌, neg_ℚ, at_least_0, ratio, of_int}
+use Rattle.exact.proofs.Integers.{of_int_le}
+use Rattle.exact.proofs.Order.{le_refl}
 use Rattle.sgp4_model.specs.Time.{IsWithin}
 use Rattle.sgp4_model.specs.Certified.{Tiles, IsTrueSpan, IsSoundUpTo}
 use Rattle.sgp4_model.specs.declared.span.Mark.{Mark}
 use Rattle.sgp4_model.specs.declared.span.Mark.TheVariants.{Yes, No, Undecided}
 use Rattle.sgp4_model.specs.declared.span.Span.{Span}
 use Rattle.sgp4_model.proofs.CertifiedLemmas.{sound_lists_extend}
-use Rattle.rows_model.specs.SmallTrack.{small_track, yes_span, no_span, undecided_span, right_list}
+use Rattle.rows_model.specs.SmallTrack.{small_track, hazy_track, yes_span, no_span, undecided_span, right_list}
 use Rattle.rows_model.specs.Tilings.{SmallTruths}
 use Rattle.rows_model.specs.Rows.{SpanRows, UnresolvedRows, FullRows}
 
@@ -52,19 +55,19 @@ inside_1_of_4 : IsWithin 0 4 (ratio (pos 1) 1)
 unfolding of_int ratio ◌+ℚ◌ neg_ℚ at_least_0
 inside_1_of_4 = record { low = record { le = tt }; high = record { le = tt } }
 
-visible : IsTrueSpan small_track 2 (yes_span 0 3)
-visible = record { yes = λ _ place h. h; no = λ e. absurd (cc); grazes = λ e. absurd (cc); short = λ e. absurd (cc) }
+visible : (resolution : ℕ) → IsTrueSpan small_track resolution (yes_span 0 3)
+visible resolution = record { yes = λ _ place h. h; no = λ e. absurd (cc); grazes = λ e. absurd (cc); short = λ e. absurd (cc) }
 
-hidden : IsTrueSpan small_track 2 (no_span 3 5)
-hidden = record { yes = λ e. absurd (cc); no = λ _ place h. h; grazes = λ e. absurd (cc); short = λ e. absurd (cc) }
+hidden : (resolution : ℕ) → IsTrueSpan small_track resolution (no_span 3 5)
+hidden resolution = record { yes = λ e. absurd (cc); no = λ _ place h. h; grazes = λ e. absurd (cc); short = λ e. absurd (cc) }
 
 grazing : IsTrueSpan small_track 2 (undecided_span 5 7)
 grazing = record { yes = λ e. absurd (cc); no = λ e. absurd (cc); grazes = λ _ place h. h; short = λ _. omega arith }
 
 pub small_truths : SmallTruths
 small_truths = record {
-  visible = visible;
-  hidden = hidden;
+  visible = visible 2;
+  hidden = hidden 2;
   grazing = grazing;
   too_wide = λ h. outside_3 (h.yes refl (ratio (pos 7) 2) inside_4);
   other_mark = λ h. before_3 (h.no refl (ratio (pos 1) 1) inside_3);
@@ -73,17 +76,19 @@ small_truths = record {
 }
 
 -- the right list, a span at a time
-sound_none : IsSoundUpTo small_track 2 [] 0
-sound_none = record { tiles = refl; differ = tt; each = All-nil (IsTrueSpan small_track 2) }
+sound_none : (resolution : ℕ) → IsSoundUpTo small_track resolution [] 0
+sound_none resolution = record { tiles = refl; differ = tt; each = All-nil (IsTrueSpan small_track resolution) }
 
-sound_one : IsSoundUpTo small_track 2 (yes_span 0 3 ∷ []) 3
-sound_one = sound_lists_extend small_track 2 [] (yes_span 0 3) sound_none tt (omega arith) visible
+sound_one : (resolution : ℕ) → IsSoundUpTo small_track resolution (yes_span 0 3 ∷ []) 3
+sound_one resolution =
+    sound_lists_extend small_track resolution [] (yes_span 0 3) (sound_none resolution) tt (omega arith) (visible resolution)
 
-sound_pair : IsSoundUpTo small_track 2 (yes_span 0 3 ∷ no_span 3 5 ∷ []) 5
-sound_pair = sound_lists_extend small_track 2 (yes_span 0 3 ∷ []) (no_span 3 5) sound_one (λ e. cc) (omega arith) hidden
+sound_pair : (resolution : ℕ) → IsSoundUpTo small_track resolution (yes_span 0 3 ∷ no_span 3 5 ∷ []) 5
+sound_pair resolution =
+    sound_lists_extend small_track resolution (yes_span 0 3 ∷ []) (no_span 3 5) (sound_one resolution) (λ e. cc) (omega arith) (hidden resolution)
 
 sound_list : IsSoundUpTo small_track 2 right_list 7
-sound_list = sound_lists_extend small_track 2 (yes_span 0 3 ∷ no_span 3 5 ∷ []) (undecided_span 5 7) sound_pair (λ e. cc) (omega arith) grazing
+sound_list = sound_lists_extend small_track 2 (yes_span 0 3 ∷ no_span 3 5 ∷ []) (undecided_span 5 7) (sound_pair 2) (λ e. cc) (omega arith) grazing
 
 pub span_rows : SpanRows
 span_rows = record {
@@ -95,13 +100,50 @@ span_rows = record {
   coarse = λ h. omega (arith, (h.0.each 2 (yes_span 0 0) (omega arith)).short refl);
 }
 
+-- a true span of the hazy track is undecided
+undecided_of : (a : Span) → a.from < a.to → IsTrueSpan hazy_track 1 a → a.mark ≡ Undecided
+undecided_of a l h = of_mark a.mark refl
+  where
+    begins : IsWithin a.from a.to (of_int (pos a.from))
+    begins = record { low = le_refl (of_int (pos a.from)); high = of_int_le (omega (arith, ints, l)) }
+
+    of_mark : (m : Mark) → a.mark ≡ m → a.mark ≡ Undecided
+    of_mark Yes k = absurd (h.yes k (of_int (pos a.from)) begins)
+    of_mark No k = absurd (h.no k (of_int (pos a.from)) begins)
+    of_mark Undecided k = k
+
+-- so no list is sound up to 3 at a resolution of one
+no_hazy_list : (list : List Span) → ¬ (IsSoundUpTo hazy_track 1 list 3)
+no_hazy_list [] s = omega (arith, s.tiles)
+no_hazy_list (a ∷ []) s =
+    let true_span = s.each 0 a (omega arith) in
+    omega (arith, true_span.short (undecided_of a (omega (arith, s.tiles.0, s.tiles.1)) true_span), s.tiles.0, s.tiles.2)
+no_hazy_list (a ∷ b ∷ rest) s =
+    s.differ.0
+    (undecided_of a (omega (arith, s.tiles.0, s.tiles.1)) (s.each 0 a (omega arith))
+    ∙ sym (undecided_of b (omega (arith, s.tiles.2.0, s.tiles.2.1)) (s.each 1 b (omega arith))))
+
 pub unresolved_rows : UnresolvedRows
 unresolved_rows = record {
-  right = (record { longer = refl; inside = omega arith; grazes = λ place h. h }, refl);
+  right = (
+    record { list = yes_span 0 3 ∷ no_span 3 5 ∷ []; sound = sound_pair 1; longer = refl; inside = omega arith; grazes = λ place h. h },
+    refl,
+  );
   resolved = λ h. omega (arith, h.0.longer);
   certain = λ h. before_5 (h.0.grazes (ratio (pos 1) 1) inside_2);
   beyond = λ h. omega (arith, h.0.inside);
   listed = λ h. cc;
+  first = (
+    record {
+      list = [];
+      sound = record { tiles = refl; differ = tt; each = All-nil (IsTrueSpan hazy_track 1) };
+      longer = refl;
+      inside = omega arith;
+      grazes = λ place h. tt;
+    },
+    refl,
+  );
+  later = λ h. no_hazy_list h.0.list h.0.sound;
 }
 
 -- no list of one span leads from 0 to 0
@@ -127,8 +169,8 @@ no_sound_list (a ∷ b ∷ rest) e s = omega (arith, e)
 
 pub full_rows : FullRows
 full_rows = record {
-  right = (record { list = yes_span 0 3 ∷ no_span 3 5 ∷ []; sound = sound_pair; before_the_end = omega arith; no_slot = refl }, refl);
-  first = (record { list = []; sound = sound_none; before_the_end = omega arith; no_slot = refl }, refl);
+  right = (record { list = yes_span 0 3 ∷ no_span 3 5 ∷ []; sound = sound_pair 2; before_the_end = omega arith; no_slot = refl }, refl);
+  first = (record { list = []; sound = sound_none 2; before_the_end = omega arith; no_slot = refl }, refl);
   at_the_end = λ h. omega (arith, h.0.before_the_end);
   overfull = λ h. omega (arith, h.0.no_slot);
   underfull = λ h. no_empty_span h.0.list h.0.no_slot h.0.sound.tiles;

@@ -24,6 +24,7 @@ certified_sunlight_is_true set start ticks span = record {
   sunlit = λ x pi k m root r s one here h. ((true_span one).yes one.is x (place_in here)).each _ (positions_make_light _ _ _ _ _ _ _ _ h);
   behind = λ x pi k m root r s one here h. (((true_span one).no one.is x (place_in here)).each _ (positions_make_light _ _ _ _ _ _ _ _ h)).behind;
   inside = λ x pi k m root r s one here h. (((true_span one).no one.is x (place_in here)).each _ (positions_make_light _ _ _ _ _ _ _ _ h)).inside;
+  undecided_behind = λ x pi k m root r s one here h. (((true_span one).grazes one.is x (place_in here)).each _ (positions_make_light _ _ _ _ _ _ _ _ h)).behind;
   undecided = λ x pi k m root r s one here h. (((true_span one).grazes one.is x (place_in here)).each _ (positions_make_light _ _ _ _ _ _ _ _ h)).given;
   sharp = λ x pi k m root r s one here h. (((true_span one).grazes one.is x (place_in here)).each _ (positions_make_light _ _ _ _ _ _ _ _ h)).sharp;
   some_sunlit = λ x one here. lit ((true_span one).yes one.is x (place_in here)).some.1;

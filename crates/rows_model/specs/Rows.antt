@@ -2,7 +2,7 @@
 use Rattle.std.specs.Prelude.{[]}
 use Rattle.sgp4_model.specs.Records.{spans, unresolved, full, decays}
 use Rattle.sgp4_model.specs.Certified.{IsCertified}
-use Rattle.rows_model.specs.SmallTrack.{small_track, sinking_track, sunken_track, right_list, gapped_list, split_list}
+use Rattle.rows_model.specs.SmallTrack.{small_track, hazy_track, sinking_track, sunken_track, right_list, gapped_list, split_list}
 
 -- the row of the right list: its count is that of its list, which is sound up to the end
 pub record SpanRows : Type 0 where
@@ -13,13 +13,15 @@ pub record SpanRows : Type 0 where
   pub empty : ¬ (IsCertified small_track 2 10 0 (spans 0) [])
   pub coarse : ¬ (IsCertified small_track 1 10 0 (spans 3) right_list)
 
--- the track grazes for two ticks, one more than a resolution of one
+-- the track grazes for two ticks, one more than a resolution of one, and before them a list is sound
 pub record UnresolvedRows : Type 0 where
   pub right : IsCertified small_track 1 10 0 (unresolved 5 7) []
   pub resolved : ¬ (IsCertified small_track 2 10 0 (unresolved 5 7) [])
   pub certain : ¬ (IsCertified small_track 1 10 0 (unresolved 0 2) [])
   pub beyond : ¬ (IsCertified small_track 1 10 0 (unresolved 6 8) [])
   pub listed : ¬ (IsCertified small_track 1 10 0 (unresolved 5 7) right_list)
+  pub first : IsCertified hazy_track 1 10 0 (unresolved 0 2) []
+  pub later : ¬ (IsCertified hazy_track 1 10 0 (unresolved 3 5) [])
 
 -- two spans lead to 5, and with eight before them they fill ten slots
 pub record FullRows : Type 0 where

@@ -11,7 +11,8 @@ tenths p g = record { p = ratio p 10; g = ratio g 10 }
 abbrev pub height : ℤ → ℕ → ShadowRecord
 height g under = record { p = ratio (negsuc 0) 2; g = ratio g under }
 
--- sunlit before the centre or over the cylinder, dark behind it and inside; on an edge neither; grazing up to 2^-13
+-- sunlit before the centre or over the cylinder, dark behind it and inside; on an edge neither; grazing behind the centre
+-- up to 2^-13
 pub record ShadowRows : Type 0 where
   pub before : IsSunlit (tenths (pos 2) (negsuc 4))
   pub over : IsSunlit (tenths (negsuc 4) (pos 1))
@@ -26,3 +27,5 @@ pub record ShadowRows : Type 0 where
   pub near_below : GrazesShadow (height (negsuc 0) 8192)
   pub far_above : ¬ (GrazesShadow (height (pos 1) 8191))
   pub far_below : ¬ (GrazesShadow (height (negsuc 0) 8191))
+  pub before_does_not_graze : ¬ (GrazesShadow (tenths (pos 2) (pos 0)))
+  pub level_does_not_graze : ¬ (GrazesShadow (tenths (pos 0) (pos 0)))

@@ -17,6 +17,10 @@ sinking_track = record { ticks = 7; yes = IsWithin 0 3; no = IsWithin 3 5; graze
 abbrev pub sunken_track : TrackRecord
 sunken_track = record { ticks = 7; yes = λ _. ⊥; no = λ _. ⊥; grazes = λ _. ⊥; sinks = λ _. ⊤ }
 
+-- it grazes everywhere, and nothing else holds
+abbrev pub hazy_track : TrackRecord
+hazy_track = record { ticks = 9; yes = λ _. ⊥; no = λ _. ⊥; grazes = λ _. ⊤; sinks = λ _. ⊥ }
+
 abbrev pub yes_span : ℕ → ℕ → Span
 yes_span begin end = record { mark = Yes; from = begin; to = end }
 

@@ -53,11 +53,12 @@ module _ (set : SetRecord) (start : ℤ) (ticks : ℕ) (span : Span) where
   SomeInLitSpans mark = (x : ℚ) → IsSpanOf (lit_track set start ticks) mark span → IsIn span x → AreLit set (seconds_at start x)
 
   -- in a certified row, wherever a sunlit span is, the satellite is before the centre or over the cylinder; a dark one, behind
-  -- and inside; undecided, within 0.001 and 2^-13 of the cylinder
+  -- and inside; undecided, behind and within 0.001 and 2^-13 of the cylinder
   pub record LitSpansAreTrue : Type 0 where
     pub sunlit : OfLitSpans Yes (λ r s. (zero_ℚ <ℚ depth r s) ⊎ (zero_ℚ <ℚ over r s))
     pub behind : OfLitSpans No (λ r s. depth r s <ℚ zero_ℚ)
     pub inside : OfLitSpans No (λ r s. over r s <ℚ zero_ℚ)
+    pub undecided_behind : OfLitSpans Undecided (λ r s. depth r s <ℚ zero_ℚ)
     pub undecided : OfLitSpans Undecided (λ r s. IsNear (ratio (pos 1) 1000) (over r s) zero_ℚ)
     pub sharp : OfLitSpans Undecided (λ r s. IsNear (ratio (pos 1) 8192) (over r s) zero_ℚ)
     pub some_sunlit : SomeInLitSpans Yes

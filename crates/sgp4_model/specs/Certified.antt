@@ -47,8 +47,11 @@ pub record IsSoundUpTo (track : TrackRecord) (resolution : ℕ) (list : List Spa
   pub differ : NeighboursDiffer list
   pub each : All (IsTrueSpan track resolution) list
 
--- the track grazes at every place from one tick to another, which are one tick more than the resolution apart
+-- A list is sound up to a tick, and from there to another the track grazes at every place; they are one tick more than the
+-- resolution apart. So no stretch that begins before is as long.
 pub record IsUnresolved (track : TrackRecord) (resolution from to : ℕ) : Type 0 where
+  pub list : List Span
+  pub sound : IsSoundUpTo track resolution list from
   pub longer : to ≡ from + resolution + 1
   pub inside : to ≤ track.ticks
   pub grazes : Throughout from to track.grazes

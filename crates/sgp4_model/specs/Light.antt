@@ -27,7 +27,8 @@ pub record IsDark (v : ShadowRecord) : Type 0 where
 abbrev pub GrazesShadowBy : ℚ → ShadowRecord → Type 0
 GrazesShadowBy b v = IsNear b v.g zero_ℚ
 
--- grazes the shadow: by 0.001, and by 2^-13
+-- grazes the shadow: behind the centre, and by 0.001 and by 2^-13
 pub record GrazesShadow (v : ShadowRecord) : Type 0 where
+  pub behind : v.p <ℚ zero_ℚ
   pub given : GrazesShadowBy (decimal 1 3) v
   pub sharp : GrazesShadowBy (part 13) v

@@ -76,6 +76,8 @@ pub unresolved : (track : TrackRecord) (resolution : ℕ) (list : List Span) (ru
     IsPart track run.to part → part.mark ≡ run.mark → run.mark ≡ Undecided → resolution < part.to - run.from → part.to ≤ track.ticks →
     IsUnresolved track resolution run.from part.to
 unresolved track resolution list run part h p same e long inside = record {
+  list = list;
+  sound = h.sound;
   longer = omega (arith, h.certain.short e, p.certain.short (same ∙ e), p.begins, p.longer, h.longer);
   inside = inside;
   grazes = joined track.grazes run part p.begins (h.certain.grazes e) (p.certain.grazes (same ∙ e));
