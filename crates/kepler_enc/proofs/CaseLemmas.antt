@@ -16,7 +16,7 @@ use Rattle.fixed_iv.specs.Reach.{IsGiven, IsHeld, IsKnown, Reach, outer}
 use Rattle.fixed_iv.specs.Place.{Place}
 use Rattle.fixed_iv.specs.declared.iv.Iv.{Iv}
 use Rattle.fixed_iv.proofs.Held.{Contained}
-use Rattle.fixed_iv.proofs.EndLemmas.{at}
+use Rattle.kepler_enc.specs.Point.{at}
 use Rattle.fixed_iv.proofs.OuterLemmas.{in_outer, size_known, width_is}
 use Rattle.kepler_enc.specs.Guard.{IsGuardedSum}
 use Rattle.kepler_enc.specs.Guess.{IsGoodGuess, LeavesAtMost}

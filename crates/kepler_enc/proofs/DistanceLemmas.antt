@@ -10,8 +10,9 @@ use Rattle.sgp4_model.specs.Angle.{IsNear}
 use Rattle.fixed_iv.specs.Extent.{width_of}
 use Rattle.fixed_iv.specs.Holds.{Holds, IsBounded}
 use Rattle.fixed_iv.specs.declared.iv.Iv.{Iv}
-use Rattle.fixed_iv.proofs.EndLemmas.{at}
-use Rattle.fixed_iv.proofs.OuterLemmas.{fraction_is_at, width_is}
+use Rattle.kepler_enc.specs.Point.{at}
+use Rattle.fixed_iv.proofs.OuterLemmas.{width_is}
+use Rattle.kepler_enc.proofs.PointLemmas.{fraction_is_at}
 use Rattle.kepler_enc.specs.Spread.{within_units}
 use Rattle.kepler_enc.proofs.SizeLemmas.{at_numeral, near_point}
 

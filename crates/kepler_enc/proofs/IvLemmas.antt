@@ -5,21 +5,21 @@ use Rattle.exact.specs.Rational.{ℚ, ratio, ◌+ℚ◌, ◌-ℚ◌, ◌*ℚ◌,
 use Rattle.exact.proofs.RationalRing.{reads}
 use Rattle.exact.proofs.Order.{known, le_by, le_refl}
 use Rattle.exact.specs.Interval.{Interval, Inside}
+use Rattle.fixed_iv.specs.Arithmetic.{numerals}
 use Rattle.fixed_iv.specs.Extent.{Extent, extent_of}
 use Rattle.fixed_iv.specs.Holds.{Holds, IsBounded}
 use Rattle.fixed_iv.specs.Place.{Place}
 use Rattle.fixed_iv.specs.Reach.{IsGiven, IsHeld, Reach, given, ◌+ᴿ◌, ◌-ᴿ◌, ◌*ᴿ◌, ◌/ᴿ◌}
 use Rattle.fixed_iv.specs.Results.{IsDifference, IsProduct, IsQuotient, IsSum}
 use Rattle.fixed_iv.specs.declared.iv.Iv.{Iv}
-use Rattle.fixed_iv.proofs.EndLemmas.{at}
+use Rattle.kepler_enc.specs.Point.{at}
 use Rattle.fixed_iv.proofs.Held.{Contained, minus_held, plus_held, times_held}
 use Rattle.fixed_iv.proofs.HeldLemmas.{holds_difference, holds_product, holds_quotient, holds_sum}
 use Rattle.fixed_iv.proofs.HeldQuotient.{divided_held}
-use Rattle.fixed_iv.proofs.HoldsLemmas.{holds_low}
+use Rattle.kepler_enc.proofs.PointLemmas.{holds_low}
 use Rattle.fixed_iv.proofs.NarrowLemmas.{difference_narrow, measured_of, product_narrow, sum_narrow}
 use Rattle.fixed_iv.proofs.OuterLemmas.{width_is}
 use Rattle.fixed_iv.proofs.QuotientWidthLemmas.{quotient_narrow}
-use Rattle.kepler_enc.specs.Numerals.{exactly_one}
 use Rattle.kepler_enc.proofs.DistanceLemmas.{at_one}
 
 -- ---- an interval as an enclosure
@@ -69,6 +69,9 @@ point_held v i e h =
     record { covers = g.holds; known = λ _ _. record { inside = h; measured = measured_of v g.bounded; narrow = g.within } }
 
 -- ---- the number 1
+abbrev pub exactly_one : Reach
+exactly_one = numerals.whole 1
+
 pub one_given : (v : Iv) → v.lo ≡ pos 281474976710656 → v.hi ≡ pos 281474976710656 → IsGiven v one_ℚ exactly_one.range 0
 unfolding ratio
 one_given v e f =

@@ -4,6 +4,7 @@ mod DistanceLemmas
 mod GuessLemmas
 mod IvLemmas
 mod KnownSpreads
+mod PointLemmas
 mod RadiusLemmas
 mod RestLemmas
 mod RoundLemmas

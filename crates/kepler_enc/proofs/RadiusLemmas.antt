@@ -6,7 +6,7 @@ use Rattle.exact.proofs.RationalRing.{reads}
 use Rattle.exact.proofs.Order.{NonNeg, gap, known, le_by, le_trans, not_negative, ◌⊕◌, ◌⊗◌}
 use Rattle.exact.proofs.Integers.{of_int_add, of_int_is, of_int_le, of_int_mul}
 use Rattle.sgp4_model.specs.Angle.{part}
-use Rattle.fixed_iv.proofs.EndLemmas.{at}
+use Rattle.kepler_enc.specs.Point.{at}
 use Rattle.kepler_enc.specs.Radius.{IsNextAbove}
 
 natural : (n : ℕ) → NonNeg (of_int (pos n))

@@ -12,8 +12,8 @@ use Rattle.fixed_iv.specs.Results.{IsSum}
 use Rattle.fixed_iv.specs.Place.{Place}
 use Rattle.fixed_iv.specs.declared.iv.Iv.{Iv}
 use Rattle.fixed_iv.proofs.Held.{Contained}
-use Rattle.fixed_iv.proofs.EndLemmas.{at}
-use Rattle.fixed_iv.proofs.HoldsLemmas.{holds_low}
+use Rattle.kepler_enc.specs.Point.{at}
+use Rattle.kepler_enc.proofs.PointLemmas.{holds_low}
 use Rattle.fixed_iv.proofs.HeldLemmas.{holds_sum}
 use Rattle.kepler_enc.specs.Guard.{IsGuardedSum}
 use Rattle.kepler_enc.specs.Radius.{IsAboutZero, IsNextAbove}

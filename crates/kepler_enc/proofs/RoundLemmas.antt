@@ -5,7 +5,7 @@ use Rattle.exact.proofs.RationalRing.{reads}
 use Rattle.exact.proofs.Order.{NonNeg, gap, known, le_by, le_trans, same_sign, ◌⊕◌, ◌⊗◌}
 use Rattle.exact.proofs.RationalRing.{ring}
 use Rattle.sgp4_model.specs.Angle.{part}
-use Rattle.fixed_iv.proofs.EndLemmas.{at}
+use Rattle.kepler_enc.specs.Point.{at}
 use Rattle.kepler_enc.proofs.RadiusLemmas.{bend_enough, in_fractions}
 use Rattle.kepler_enc.proofs.SizeLemmas.{at_add, at_numeral, at_most_half, at_most_one, not_below_zero}
 

@@ -12,7 +12,7 @@ use Rattle.fixed_iv.specs.Ends.{in_units}
 use Rattle.fixed_iv.specs.Extent.{size}
 use Rattle.fixed_iv.specs.Holds.{Holds, IsBounded}
 use Rattle.fixed_iv.specs.declared.iv.Iv.{Iv}
-use Rattle.fixed_iv.proofs.EndLemmas.{at}
+use Rattle.kepler_enc.specs.Point.{at}
 use Rattle.fixed_iv.proofs.HeldLemmas.{holds_whole}
 use Rattle.kepler_enc.specs.Radius.{IsAboutZero}
 

@@ -12,9 +12,9 @@ use Rattle.sgp4_model.specs.Angle.{IsNear, part}
 use Rattle.fixed_iv.specs.Extent.{size, width_of}
 use Rattle.fixed_iv.specs.Holds.{Holds, IsBounded}
 use Rattle.fixed_iv.specs.declared.iv.Iv.{Iv}
-use Rattle.fixed_iv.proofs.EndLemmas.{at}
-use Rattle.fixed_iv.proofs.HoldsLemmas.{holds_high, holds_low}
-use Rattle.fixed_iv.proofs.OuterLemmas.{fraction_is_at}
+use Rattle.kepler_enc.specs.Point.{at}
+use Rattle.kepler_enc.proofs.PointLemmas.{holds_high, holds_low}
+use Rattle.kepler_enc.proofs.PointLemmas.{fraction_is_at}
 use Rattle.kepler_enc.specs.Guess.{AreSized}
 use Rattle.kepler_enc.specs.Spread.{about_one, within_units}
 use Rattle.kepler_enc.proofs.BallLemmas.{scaled}

@@ -1,5 +1,9 @@
 pub mod Guard
 pub mod Guess
-pub mod Numerals
+pub mod Lines
+pub mod Point
 pub mod Radius
+pub mod Roots
+pub mod Rounds
 pub mod Spread
+pub mod Step

@@ -3,8 +3,9 @@
 use Rattle.std.specs.Prelude.{ℕ, ◌+◌, ◌-◌, ◌*◌, ◌/◌, ◌^◌, Bool, ◌&&◌, pos, neg_ℤ, ◌-ℤ◌}
 use lib.Signed.{non_neg}
 use Rattle.exact.specs.Interval.{Interval, interval_add}
-use Rattle.fixed_iv.specs.Reach.{Reach, claimed, given, in_fraction, outer, outer_size, turned, ◌+ᴿ◌, ◌-ᴿ◌, ◌*ᴿ◌, ◌/ᴿ◌}
-use Rattle.kepler_enc.specs.Numerals.{exactly_one}
+use Rattle.fixed_iv.specs.Arithmetic.{numerals}
+use Rattle.fixed_iv.specs.Reach.{Reach, claimed, given, in_fraction, outer, outer_size, turned, ◌-ᴿ◌, ◌/ᴿ◌}
+use Rattle.kepler_enc.specs.Lines.{residual, rise, stepped}
 
 -- from minus so many units to so many
 abbrev pub within_units : ℕ → Interval
@@ -28,16 +29,19 @@ tried u = given (interval_add (outer u) (within_units (2 ^ 49))) 0
 
 -- what it leaves of the equation, n units at most, and how steeply that rises
 abbrev pub left_of : Reach → Reach → Reach → Reach → ℕ → Reach
-left_of angle u ax ay n = claimed (angle +ᴿ ay *ᴿ turned angle -ᴿ ax *ᴿ turned angle -ᴿ u) (within_units n)
+left_of angle u ax ay n = claimed (residual numerals u ax ay angle (turned angle) (turned angle)) (within_units n)
 
 abbrev pub rise_of : Reach → Reach → Reach → ℕ → Reach
-rise_of angle ax ay sum = claimed (exactly_one -ᴿ ay *ᴿ turned angle -ᴿ ax *ᴿ turned angle) (about_one (sum + 1))
+rise_of angle ax ay sum = claimed (rise numerals ax ay (turned angle) (turned angle)) (about_one (sum + 1))
 
 -- the sizes of ax and ay add up to so many units at most
 module _ (u ax ay : Reach) (sum : ℕ) where
   -- ---- a round of the guess, at an angle that leaves n units at most for the middles
   unfoldable pub bettered : ℕ → Reach
-  bettered n = tried u -ᴿ left_of (tried u) (middle_of u) (middle_of ax) (middle_of ay) n /ᴿ rise_of (tried u) (middle_of ax) (middle_of ay) sum
+  bettered n =
+      tried u -ᴿ
+      left_of (tried u) (middle_of u) (middle_of ax) (middle_of ay) n /ᴿ
+      rise_of (tried u) (middle_of ax) (middle_of ay) sum
 
   unfoldable pub spread_of : ℕ → ℕ
   spread_of n = (bettered n).spread
@@ -72,7 +76,9 @@ module _ (u ax ay : Reach) (sum : ℕ) where
   rest_of n = (sum * (ball_of n * ball_of n / 2 ^ 49 + 1) / 2 ^ 48 + 2) * 2 ^ 48 / (2 ^ 48 - sum) + 1
 
   unfoldable pub stepped_to : ℕ → Reach
-  stepped_to n = tried u -ᴿ left_of (tried u) u ax ay n /ᴿ rise_of (tried u) ax ay sum +ᴿ given (within_units (rest_of n)) (2 * rest_of n)
+  stepped_to n =
+      stepped numerals (tried u) (left_of (tried u) u ax ay n) (rise_of (tried u) ax ay sum)
+      (given (within_units (rest_of n)) (2 * rest_of n))
 
   unfoldable pub steps : ℕ → Bool
   steps n =
@@ -81,14 +87,22 @@ module _ (u ax ay : Reach) (sum : ℕ) where
 
   -- the root lies within 1 of u
   unfoldable pub root_from : ℕ → Reach
-  root_from n = record { ok = (u.ok && (ax.ok && ay.ok)) && steps n; range = interval_add u.range (within_units (2 ^ 48)); spread = (stepped_to n).spread }
+  root_from n = record {
+    ok = (u.ok && (ax.ok && ay.ok)) && steps n;
+    range = interval_add u.range (within_units (2 ^ 48));
+    spread = (stepped_to n).spread;
+  }
 
   -- what the guess leaves for any numbers of the bounds, and the root from it
   unfoldable pub left_over : ℕ
   left_over = left_last + u.spread + 2 * (ax.spread + ay.spread)
 
   unfoldable pub root_of : Reach
-  root_of = record { ok = guesses && (root_from left_over).ok; range = (root_from left_over).range; spread = (root_from left_over).spread }
+  root_of = record {
+    ok = guesses && (root_from left_over).ok;
+    range = (root_from left_over).range;
+    spread = (root_from left_over).spread;
+  }
 
 -- of the root, where the sizes of the exact ax and ay add up to so many units at most
 abbrev pub reach_root : Reach → Reach → Reach → ℕ → Reach

@@ -8,8 +8,8 @@ use fixed_iv::Iv;
 /// Larger radii are taken for unbounded.
 const FAR: u128 = 1 << 62;
 
-/// How far a root lies from the guess at most. `residual` is the size of what the guess leaves of the equation, and `sum`
-/// that of `ax` and `ay` together.
+/// How far a root lies from the guess at most. `residual` is the size of what the guess leaves of the equation, and
+/// `sum` that of `ax` and `ay` together.
 pub(crate) fn ball_radius(residual: u64, sum: u64) -> u128
     requires { sum < 2 ^ 48 }
     ensures { IsNextAbove ((residual + 1) * 2 ^ 48) (2 ^ 48 - sum) result }

@@ -1,10 +1,10 @@
-use Rattle.fixed_iv.proofs.Held.{minus_held, plus_held}
-use Rattle.fixed_iv.proofs.HeldQuotient.{divided_held}
+use Rattle.fixed_iv.proofs.Promises.{difference, quotient, sum}
 use Rattle.kepler_enc.proofs.equation.stepped.Goals as goal
 
 pub returns : goal.returns
-returns g c h _ _ _ _ _ _ _ _ angle residual rise rest nonzero =
-    let law = g.met.E.Enc.contained in
-    let step = divided_held law c.divided.ensures.covers c.divided.ensures.narrow nonzero residual rise in
-    let minus_1 = minus_held law c.minus.ensures.covers c.minus.ensures.narrow angle step in
-    plus_held law c.plus.ensures.covers c.plus.ensures.narrow minus_1 rest
+returns g c = record {
+  gives = λ rises angle residual rise rest.
+      let law = g.met.E.Enc.contained in
+      let step = quotient law c.divided.ensures rises residual rise in
+      sum law c.plus.ensures (difference law c.minus.ensures angle step) rest;
+}

@@ -1,8 +1,8 @@
 use Rattle.std.proofs.Common.{arith, refl}
 use Rattle.sgp4_model.proofs.Near.{near_weaken}
 use Rattle.sgp4_model.proofs.OwnPair.{sine_and_cosine_exist}
-use Rattle.fixed_iv.proofs.EndLemmas.{at}
-use Rattle.fixed_iv.proofs.HoldsLemmas.{holds_at}
+use Rattle.kepler_enc.specs.Point.{at}
+use Rattle.kepler_enc.proofs.PointLemmas.{holds_at}
 use Rattle.kepler_enc.specs.Spread.{moved, next_left, spread_of}
 use Rattle.kepler_enc.proofs.GuessLemmas.{round}
 use Rattle.kepler_enc.proofs.DistanceLemmas.{at_most, near_width}

@@ -1,7 +1,7 @@
 use Rattle.std.proofs.Common.{◌+◌, pos}
 use Rattle.sgp4_model.proofs.Pythagoras.{sine_pairs_are_bounded}
-use Rattle.fixed_iv.proofs.EndLemmas.{at}
-use Rattle.fixed_iv.proofs.HoldsLemmas.{holds_at}
+use Rattle.kepler_enc.specs.Point.{at}
+use Rattle.kepler_enc.proofs.PointLemmas.{holds_at}
 use Rattle.fixed_iv.proofs.OuterLemmas.{both}
 use Rattle.kepler_enc.specs.Guess.{LeavesAtMost}
 use Rattle.kepler_enc.specs.Spread.{guesses, left_first, left_last}

@@ -1,7 +1,7 @@
 use Rattle.std.proofs.Common.{arith, ◌+◌}
 use Rattle.sgp4_model.proofs.Pythagoras.{sine_pairs_are_bounded}
 use Rattle.fixed_iv.specs.Reach.{outer, turned}
-use Rattle.fixed_iv.proofs.EndLemmas.{at}
+use Rattle.kepler_enc.specs.Point.{at}
 use Rattle.fixed_iv.proofs.Held.{claim_held, constant_held, turn_held}
 use Rattle.exact.proofs.Strict.{not_zero}
 use Rattle.kepler_enc.specs.Spread.{about_one, bettered, spread_of, tried, within_units}

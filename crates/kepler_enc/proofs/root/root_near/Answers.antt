@@ -3,7 +3,7 @@ use Rattle.std.proofs.lemmas.Grind.{common_steps}
 use Rattle.sgp4_model.proofs.OwnPair.{sine_and_cosine_exist}
 use Rattle.fixed_iv.specs.Extent.{size}
 use Rattle.fixed_iv.specs.Holds.{IsBounded}
-use Rattle.fixed_iv.proofs.EndLemmas.{at}
+use Rattle.kepler_enc.specs.Point.{at}
 use Rattle.fixed_iv.proofs.Held.{claim_held, constant_held, covered, held_at}
 use Rattle.kepler_enc.specs.Radius.{IsNextAbove}
 use Rattle.kepler_enc.specs.Spread.{about_one, root_from, stepped_to, within_units}
@@ -70,11 +70,11 @@ returns g c h pi x_u x_ax x_ay angle r_u r_ax r_ay most n is_pi u ax ay root lea
     let seen = seen_of g.E.Enc.extent law c.args.ax c.args.ay c.tried-angle.result.3 h pi x_u x_ax x_ay angle pair.0 pair.1.0 c.args.point c.args.sum is_pi c.requires.guarded ax.covers ay.covers root pair.1.1 bounded at_point.3.covers in
     let half : c.args.sum ≤ 2 ^ 47 = grind (arith, common_steps, c.if-sum.false) in
     let near : c.ball_radius-radius.result ≤ 2 ^ 48 = grind (arith, common_steps, c.if-radius-from.false, c.from.ensures) in
-    let steep = c.rise-steepness.ensures h _ _ _ _ _ _ _ _ ax ay at_point.1 at_point.2 in
+    let steep = c.rise-steepness.ensures.gives ax ay at_point.1 at_point.2 in
     let small = step_rest seen half near ball c.rest_radius.ensures in
     let rest = c.constant-2.ensures.covers h _ (holds_about c.about_zero-rest.ensures small) in
     record {
-      covers = (held_at (step_is p _ _ angle) (c.stepped.ensures h _ _ _ _ _ _ _ _ at_point.0 at_point.3 steep (covered rest) (not_level seen half))).covers;
+      covers = (held_at (step_is p _ _ angle) (c.stepped.ensures.gives (not_level seen half) at_point.0 at_point.3 steep (covered rest))).covers;
       known = λ told ok.
           let stepping = stepping_of r_u r_ax r_ay most n ok in
           let facts = leaves told ok in
@@ -83,9 +83,9 @@ returns g c h pi x_u x_ax x_ay angle r_u r_ax r_ay most n is_pi u ax ay root lea
           let left = claim_held (within_units n) tried.3 (inside_units n _ (facts.0 pair.0 pair.1.0 pair.1.1)) in
           let left_known = left.known told stepping.of_left in
           let left_holds = law c.tried-angle.result.3 h _ left.covers in
-          let steepness = claim_held (about_one (most + 1)) (c.rise-steepness.ensures h _ _ _ _ _ _ _ _ ax ay tried.1 tried.2) (case_rise here) in
+          let steepness = claim_held (about_one (most + 1)) (c.rise-steepness.ensures.gives ax ay tried.1 tried.2) (case_rise here) in
           let of_rest = constant_held c.constant-2.ensures.covers c.constant-2.ensures.narrow (case_rest here c.requires.guarded left_known left_holds ball c.rest_radius.ensures c.about_zero-rest.ensures small) in
-          let stepped = held_at (step_is p _ _ angle) (c.stepped.ensures h _ _ _ _ _ _ _ _ tried.0 left steepness of_rest (not_level seen half)) in
+          let stepped = held_at (step_is p _ _ angle) (c.stepped.ensures.gives (not_level seen half) tried.0 left steepness of_rest) in
           let answer = stepped.known told stepping.ok in
           record { inside = case_root here root; measured = answer.measured; narrow = answer.narrow };
     }
