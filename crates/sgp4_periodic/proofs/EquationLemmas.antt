@@ -1,16 +1,18 @@
 -- The equations in the order of the code.
-use Rattle.std.proofs.Common.{◌≡◌, ◌∙◌, ap, sym, pos, negsuc, [], ◌∷◌}
+use Rattle.std.proofs.Common.{◌≡◌, ◌∙◌, ap, sym, pos, [], ◌∷◌}
 use Rattle.exact.specs.Rational.{ℚ, ◌+ℚ◌, ◌-ℚ◌, ◌*ℚ◌, ◌/ℚ◌, ◌^ℚ◌, inverse, neg_ℚ, one_ℚ, ratio, zero_ℚ}
 use Rattle.exact.proofs.RationalRing.{ring, reads}
 use Rattle.exact.proofs.Strict.{mul_inverse}
 use Rattle.sgp4_model.specs.Numerals.{decimal, whole}
 use Rattle.sgp4_model.specs.Wgs72.{j2}
+use Rattle.fixed_iv.specs.Arithmetic.{exact}
+use Rattle.sgp4_periodic.specs.Lines.{cosine_of_twice, distance, first_coordinate, inclination, inverse_rectum, latitude_change, node, one_and_a_half, rest_of_square, second_coordinate, sine_of_twice}
 
 -- ---- before Kepler's equation
-pub rectum_is : (a e : ℚ) → a *ℚ (one_ℚ -ℚ e *ℚ e) ≡ a *ℚ (one_ℚ -ℚ e ^ℚ 2)
+pub rectum_is : (a e : ℚ) → (inverse_rectum exact a e).1 ≡ a *ℚ (one_ℚ -ℚ e ^ℚ 2)
 rectum_is a e = ring (a ∷ e ∷ []) (search reads depth 60) tt
 
-pub squares_are : (x y : ℚ) → one_ℚ -ℚ (x *ℚ x +ℚ y *ℚ y) ≡ one_ℚ -ℚ (x ^ℚ 2 +ℚ y ^ℚ 2)
+pub squares_are : (x y : ℚ) → rest_of_square exact x y ≡ one_ℚ -ℚ (x ^ℚ 2 +ℚ y ^ℚ 2)
 squares_are x y = ring (x ∷ y ∷ []) (search reads depth 60) tt
 
 -- ---- the argument of latitude
@@ -44,10 +46,10 @@ sine_is s ay ax es d = ring (s ∷ ay ∷ ax ∷ es ∷ inverse d ∷ []) (searc
 pub cosine_is : (s ay ax es d : ℚ) → s -ℚ ax +ℚ ay *ℚ (es /ℚ d) ≡ s -ℚ ax +ℚ ay *ℚ es /ℚ d
 cosine_is s ay ax es d = ring (s ∷ ay ∷ ax ∷ es ∷ inverse d ∷ []) (search reads depth 60) tt
 
-pub sine_of_twice_is : (s c : ℚ) → s *ℚ c +ℚ s *ℚ c ≡ whole 2 *ℚ s *ℚ c
+pub sine_of_twice_is : (s c : ℚ) → sine_of_twice exact s c ≡ whole 2 *ℚ s *ℚ c
 sine_of_twice_is s c = ring (s ∷ c ∷ []) (search reads depth 60) tt
 
-pub cosine_of_twice_is : (s : ℚ) → one_ℚ -ℚ (s *ℚ s +ℚ s *ℚ s) ≡ one_ℚ -ℚ whole 2 *ℚ s ^ℚ 2
+pub cosine_of_twice_is : (s : ℚ) → cosine_of_twice exact s ≡ one_ℚ -ℚ whole 2 *ℚ s ^ℚ 2
 cosine_of_twice_is s = ring (s ∷ []) (search reads depth 60) tt
 
 -- ---- the short-period corrections
@@ -55,22 +57,24 @@ pub half_of_j2_is : ratio (pos 541308) 1000000000 ≡ decimal 5 1 *ℚ j2
 half_of_j2_is = ring [] (search reads depth 60) tt
 
 pub distance_is : (rl k1 k2 b con41 c c2 : ℚ) →
-    rl *ℚ (one_ℚ -ℚ ratio (pos 3) 2 *ℚ k2 *ℚ b *ℚ con41) +ℚ ratio (pos 1) 2 *ℚ k1 *ℚ (one_ℚ -ℚ c *ℚ c) *ℚ c2 ≡
+    distance exact rl k1 (one_and_a_half exact k2) b con41 c c2 ≡
     rl *ℚ (one_ℚ -ℚ decimal 15 1 *ℚ k2 *ℚ b *ℚ con41) +ℚ decimal 5 1 *ℚ k1 *ℚ (one_ℚ -ℚ c ^ℚ 2) *ℚ c2
 distance_is rl k1 k2 b con41 c c2 = ring (rl ∷ k1 ∷ k2 ∷ b ∷ con41 ∷ c ∷ c2 ∷ []) (search reads depth 90) tt
 
-pub change_is : (k2 c s2 : ℚ) → ratio (negsuc 0) 4 *ℚ k2 *ℚ (ratio (pos 7) 1 *ℚ (c *ℚ c) -ℚ one_ℚ) *ℚ s2 ≡ neg_ℚ (decimal 25 2) *ℚ k2 *ℚ (whole 7 *ℚ c ^ℚ 2 -ℚ one_ℚ) *ℚ s2
+pub change_is : (k2 c s2 : ℚ) →
+    latitude_change exact k2 c s2 ≡ neg_ℚ (decimal 25 2) *ℚ k2 *ℚ (whole 7 *ℚ c ^ℚ 2 -ℚ one_ℚ) *ℚ s2
 change_is k2 c s2 = ring (k2 ∷ c ∷ s2 ∷ []) (search reads depth 60) tt
 
-pub node_is : (om k2 c s2 : ℚ) → om +ℚ ratio (pos 3) 2 *ℚ k2 *ℚ c *ℚ s2 ≡ om +ℚ decimal 15 1 *ℚ k2 *ℚ c *ℚ s2
+pub node_is : (om k2 c s2 : ℚ) → node exact om (one_and_a_half exact k2) c s2 ≡ om +ℚ decimal 15 1 *ℚ k2 *ℚ c *ℚ s2
 node_is om k2 c s2 = ring (om ∷ k2 ∷ c ∷ s2 ∷ []) (search reads depth 60) tt
 
-pub inclination_is : (i k2 c si c2 : ℚ) → i +ℚ ratio (pos 3) 2 *ℚ k2 *ℚ c *ℚ si *ℚ c2 ≡ i +ℚ decimal 15 1 *ℚ k2 *ℚ c *ℚ si *ℚ c2
+pub inclination_is : (i k2 c si c2 : ℚ) →
+    inclination exact i (one_and_a_half exact k2) c si c2 ≡ i +ℚ decimal 15 1 *ℚ k2 *ℚ c *ℚ si *ℚ c2
 inclination_is i k2 c si c2 = ring (i ∷ k2 ∷ c ∷ si ∷ c2 ∷ []) (search reads depth 60) tt
 
 -- ---- the axes
-pub first_is : (r s c t sw cw : ℚ) → r *ℚ (c *ℚ cw -ℚ s *ℚ (t *ℚ sw)) ≡ r *ℚ (neg_ℚ s *ℚ t *ℚ sw +ℚ c *ℚ cw)
+pub first_is : (r s c t sw cw : ℚ) → first_coordinate exact r s c (t *ℚ sw) cw ≡ r *ℚ (neg_ℚ s *ℚ t *ℚ sw +ℚ c *ℚ cw)
 first_is r s c t sw cw = ring (r ∷ s ∷ c ∷ t ∷ sw ∷ cw ∷ []) (search reads depth 60) tt
 
-pub second_is : (r s c t sw cw : ℚ) → r *ℚ (c *ℚ (t *ℚ sw) +ℚ s *ℚ cw) ≡ r *ℚ (c *ℚ t *ℚ sw +ℚ s *ℚ cw)
+pub second_is : (r s c t sw cw : ℚ) → second_coordinate exact r s c (t *ℚ sw) cw ≡ r *ℚ (c *ℚ t *ℚ sw +ℚ s *ℚ cw)
 second_is r s c t sw cw = ring (r ∷ s ∷ c ∷ t ∷ sw ∷ cw ∷ []) (search reads depth 60) tt

@@ -15,7 +15,7 @@ use Rattle.fixed_iv.specs.Ends.{in_units, no_low, no_high}
 use Rattle.fixed_iv.specs.Extent.{size}
 use Rattle.fixed_iv.specs.Holds.{Holds, IsBounded}
 use Rattle.fixed_iv.specs.declared.iv.Iv.{Iv}
-use Rattle.fixed_iv.proofs.EndLemmas.{at}
+use Rattle.kepler_enc.specs.Point.{at}
 use Rattle.kepler_enc.specs.Guard.{IsUnguarded}
 use Rattle.kepler_enc.proofs.SizeLemmas.{near_size, sizes_add}
 use Rattle.sgp4_periodic.specs.Ellipse.{IsEllipse}

@@ -1,9 +1,10 @@
 -- The guards, by the lower end of the bounds.
-use Rattle.std.proofs.Common.{arith, ℤ, pos, ◌≤ℤ◌, ◌*ℤ◌, ◌^◌, T, not, Bool, true, false}
+use Rattle.std.proofs.Common.{arith, ℤ, pos, ◌≤ℤ◌, ◌*ℤ◌, ◌^◌}
 use Rattle.std.proofs.lemmas.Int.{ints, by_lt_z}
 use native.Mathlib.Nat.{zero-lt-suc}
 use Rattle.exact.specs.Rational.{ratio, number, zero_ℚ, ◌≤ℚ◌, ◌<ℚ◌, ◌-ℚ◌, at_least_0}
 use Rattle.exact.proofs.Fractions.{le_of_cross, cross_of_le}
+use Rattle.exact.proofs.Tests.{by_test, clash}
 use Rattle.sgp4_model.specs.Position.{least_distance}
 
 -- ---- at least 1.02: of 2^48 units that are 287104476244869.1..
@@ -31,14 +32,6 @@ zero_not_above n h =
   where
     by_cross : (n : ℤ) → (n *ℤ pos 1) ≤ℤ (pos 0 *ℤ pos 281474976710656) → n ≤ℤ pos 0
     by_cross n h = omega (arith, ints, h)
-
-by_test : {P : Type 0} (t : Bool) → (T t → P) → (T (not t) → P) → P
-by_test true f g = f tt
-by_test false f g = g tt
-
-clash : (t : Bool) → T t → T (not t) → ⊥
-clash true f g = g
-clash false f g = f
 
 pub above_0 : (n : ℤ) → pos 1 ≤ℤ n → zero_ℚ <ℚ ratio n (2 ^ 48)
 above_0 n h = by_test (at_least_0 (zero_ℚ -ℚ ratio n (2 ^ 48))) (λ t. absurd (apart (zero_not_above n (record { le = t })))) (λ t. record { lt = t })

@@ -4,8 +4,8 @@ use Rattle.exact.specs.Interval.{Inside, Interval}
 use Rattle.kepler_enc.specs.Guess.{AreSized}
 use Rattle.sgp4_model.specs.Position.{PeriodicRecord}
 
--- If anything is known: how many units of 2^-48 the sizes of ax and ay add up to at most, and ranges of ec, of su and cu, and
--- of the sine of du.
+-- If anything is known: how many units of 2^-48 the sizes of ax and ay add up to at most, and ranges of ec, of su and
+-- cu, and of the sine of du.
 pub record PositionBox : Type 0 where
   pub known : Bool
   pub vector : ℕ

@@ -1,16 +1,21 @@
 -- The ellipse with the long-period corrections: what holds of it before Kepler's equation is solved, and its numerals.
 use Rattle.std.specs.Prelude.{◌≡◌, Bool}
 use Rattle.exact.specs.Rational.{ℚ, ◌+ℚ◌, ◌-ℚ◌, ◌*ℚ◌, ◌/ℚ◌, ◌^ℚ◌, one_ℚ}
+use Rattle.fixed_iv.specs.Arithmetic.{numerals}
 use Rattle.fixed_iv.specs.Extent.{Extent}
 use Rattle.fixed_iv.specs.Place.{Place}
-use Rattle.fixed_iv.specs.Reach.{Reach, IsHeld, ◌+ᴿ◌, ◌-ᴿ◌, ◌*ᴿ◌, ◌/ᴿ◌, turned}
-use Rattle.sgp4_model.specs.Angle.{IsSinCos}
+use Rattle.fixed_iv.specs.Reach.{Reach, IsHeld, ◌*ᴿ◌, turned}
+use Rattle.fixed_iv.specs.declared.enc.Enc.{Ghosts}
+use Rattle.sgp4_model.specs.Angle.{IsPi, IsSinCos}
 use Rattle.sgp4_model.specs.Numerals.{IsDivisor}
 use Rattle.sgp4_model.specs.OrbitRecords.{ConstRecord, MeanRecord}
 use Rattle.sgp4_model.specs.Position.{PeriodicRecord}
-use Rattle.sgp4_shape.specs.HeldConsts.{ConstReach}
-use Rattle.sgp4_shape.specs.HeldMean.{MeanReach}
-use Rattle.sgp4_periodic.specs.Numerals.{exactly_one}
+use Rattle.sgp4_shape.specs.HeldConsts.{ConstReach, IsHeldConsts}
+use Rattle.sgp4_shape.specs.HeldMean.{IsHeldMean, MeanReach}
+use Rattle.sgp4_shape.specs.declared.consts.Consts.{Consts}
+use Rattle.sgp4_shape.specs.declared.mean.Mean.{Mean}
+use Rattle.sgp4_periodic.specs.Divided.{divided}
+use Rattle.sgp4_periodic.specs.Lines.{inverse_rectum, longitude, rest_of_square, second_component}
 use Rattle.sgp4_periodic.specs.declared.ellipse.Ellipse.{Ellipse}
 
 module _ (k : ConstRecord) (m : MeanRecord) (q : PeriodicRecord) where
@@ -38,7 +43,8 @@ pub record EllipseReach : Type 0 where
   pub pl : Reach
 
 -- each of its quantities is covered at the place, and its enclosure is as its numerals say
-pub record IsHeldEllipse {A : Type 0} (covers : A → Place → ℚ → Type 0) (extent : A → Extent) (told : Bool) (ellipse : Ellipse A) (h : Place) (q : PeriodicRecord) (r : EllipseReach) : Type 0 where
+pub record IsHeldEllipse {A : Type 0} (covers : A → Place → ℚ → Type 0) (extent : A → Extent) (told : Bool)
+    (ellipse : Ellipse A) (h : Place) (q : PeriodicRecord) (r : EllipseReach) : Type 0 where
   pub ax : IsHeld covers extent told ellipse.ax h q.ax r.ax
   pub ay : IsHeld covers extent told ellipse.ay h q.ay r.ay
   pub u : IsHeld covers extent told ellipse.u h q.u r.u
@@ -48,7 +54,7 @@ pub record IsHeldEllipse {A : Type 0} (covers : A → Place → ℚ → Type 0) 
 module _ (r : ConstReach) (n : MeanReach) where
   -- one over the semilatus rectum of the mean elements
   abbrev pub reach_v : Reach
-  reach_v = exactly_one /ᴿ (n.am *ᴿ (exactly_one -ᴿ n.em *ᴿ n.em))
+  reach_v = divided (inverse_rectum numerals n.am n.em)
 
   -- the first component of the eccentricity vector
   abbrev pub reach_ax : Reach
@@ -56,18 +62,25 @@ module _ (r : ConstReach) (n : MeanReach) where
 
   -- its second component
   abbrev pub reach_ay : Reach
-  reach_ay = n.em *ᴿ turned n.wm +ᴿ reach_v *ᴿ r.aycof
+  reach_ay = second_component numerals n.em (turned n.wm) reach_v r.aycof
 
   -- 1 less its square
   abbrev pub reach_rest : Reach
-  reach_rest = exactly_one -ᴿ (reach_ax *ᴿ reach_ax +ᴿ reach_ay *ᴿ reach_ay)
+  reach_rest = rest_of_square numerals reach_ax reach_ay
 
   -- the ellipse of the mean elements
   abbrev pub reach_ellipse : EllipseReach
   reach_ellipse = record {
     ax = reach_ax;
     ay = reach_ay;
-    u = n.ml +ᴿ n.wm +ᴿ reach_v *ᴿ r.xlcof *ᴿ reach_ax;
+    u = longitude numerals n.ml n.wm reach_v r.xlcof reach_ax;
     rest = reach_rest;
     pl = n.am *ᴿ reach_rest;
   }
+
+-- numerals for the enclosed ellipse follow from those of the constants and the mean elements
+abbrev pub HoldsEllipse : {A : Type 0} → Ghosts A → Consts A → Mean A → Ellipse A → Type 0
+HoldsEllipse E consts mean ellipse =
+    (h : Place) (pi : ℚ) (k : ConstRecord) (m : MeanRecord) (q : PeriodicRecord) (r : ConstReach) (n : MeanReach) →
+    IsPi pi → IsHeldConsts E.covers E.extent E.tells consts h k r → IsHeldMean E.covers E.extent E.tells mean h m n →
+    IsEllipse k m q pi → IsHeldEllipse E.covers E.extent E.tells ellipse h q (reach_ellipse r n)

@@ -1,9 +1,13 @@
 pub mod Box
+pub mod Coordinates
 pub mod Corrected
 pub mod Covered
+pub mod Divided
+pub mod EachPosition
 pub mod Ellipse
 pub mod Guards
-pub mod Numerals
+pub mod Lines
 pub mod Pairs
+pub mod Parts
 pub mod Placed
 pub mod Unplaced

@@ -19,20 +19,23 @@ use Rattle.sgp4_periodic.specs.Ellipse.{IsEllipse, IsHeldEllipse, reach_ellipse}
 use Rattle.sgp4_periodic.specs.Guards.{AreDistant, LieAbove0}
 use Rattle.sgp4_periodic.specs.declared.ellipse.Ellipse.{Ellipse}
 
-module _ {A : Type 0} (covers : A → Place → ℚ → Type 0) (extent : A → Extent) (told : Bool) (consts : Consts A) (mean : Mean A) where
-  -- some enclosure of the ellipse, as narrow as its equations give, has bounds that do not certify Kepler's equation, or a
-  -- semilatus rectum above 0
+module _ {A : Type 0} (covers : A → Place → ℚ → Type 0) (extent : A → Extent) (told : Bool)
+    (consts : Consts A) (mean : Mean A) where
+  -- some enclosure of the ellipse, as narrow as its equations give, has bounds that do not certify Kepler's equation, or
+  -- a semilatus rectum above 0
   pub record IsUncertified : Type 0 where
     pub ellipse : Ellipse A
-    pub held : (h : Place) (pi : ℚ) (k : ConstRecord) (m : MeanRecord) (q : PeriodicRecord) (r : ConstReach) (n : MeanReach) → IsPi pi →
+    pub held : (h : Place) (pi : ℚ) (k : ConstRecord) (m : MeanRecord) (q : PeriodicRecord) (r : ConstReach)
+        (n : MeanReach) → IsPi pi →
         IsHeldConsts covers extent told consts h k r → IsHeldMean covers extent told mean h m n →
         IsEllipse k m q pi → IsHeldEllipse covers extent told ellipse h q (reach_ellipse r n)
     pub outside : IsUnguarded (extent ellipse.ax).ends (extent ellipse.ay).ends ⊎ ¬ LieAbove0 (extent ellipse.pl).ends
 
-  -- some enclosure of the distance, as narrow as its equations give, has bounds that are not at least the least that is taken
+  -- some enclosure of the distance, as narrow as its equations give, has bounds that are not at least the least distance
   pub record IsLow : Type 0 where
     pub mrt : A
-    pub held : (h : Place) (pi root : ℚ) (k : ConstRecord) (m : MeanRecord) (q : PeriodicRecord) (v : Vector) (r : ConstReach) (n : MeanReach) (b : PositionBox) → IsPi pi →
+    pub held : (h : Place) (pi root : ℚ) (k : ConstRecord) (m : MeanRecord) (q : PeriodicRecord) (v : Vector)
+        (r : ConstReach) (n : MeanReach) (b : PositionBox) → IsPi pi →
         IsHeldConsts covers extent told consts h k r → IsHeldMean covers extent told mean h m n →
         IsPositionUnguarded k m q pi root v → IsInBox q b → IsHeld covers extent told mrt h q.mrt (reach_at r n b).mrt
     pub low : ¬ AreDistant (extent mrt).ends

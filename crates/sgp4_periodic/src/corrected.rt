@@ -1,17 +1,5 @@
 //! Distance and angles with their short-period corrections.
-ghost use Rattle.std.specs.Prelude.{T};
-ghost use Rattle.exact.specs.Rational.{ℚ};
-ghost use Rattle.fixed_iv.specs.Place.{Place};
-ghost use Rattle.fixed_iv.specs.Reach.{IsHeld, Reach};
-ghost use Rattle.sgp4_model.specs.Angle.{IsPi};
-ghost use Rattle.sgp4_model.specs.OrbitRecords.{ConstRecord, MeanRecord};
-ghost use Rattle.sgp4_model.specs.Position.{IsPositionUnguarded, PeriodicRecord};
-ghost use Rattle.sgp4_model.specs.Vector.{Vector};
-ghost use Rattle.sgp4_shape.specs.HeldConsts.{ConstReach, IsHeldConsts};
-ghost use Rattle.sgp4_shape.specs.HeldMean.{IsHeldMean, MeanReach};
-ghost use Rattle.sgp4_periodic.specs.Box.{IsInBox, PositionBox};
-ghost use Rattle.sgp4_periodic.specs.Corrected.{IsHeldCorrected, reach_corrected};
-ghost use Rattle.sgp4_periodic.specs.Ellipse.{EllipseReach, IsHeldEllipse};
+ghost use Rattle.sgp4_periodic.specs.Corrected.{HoldsCorrected};
 
 use crate::ellipse::Ellipse;
 use crate::latitude::{
@@ -49,7 +37,7 @@ pub(crate) fn corrected_at<E: Enc>(
     ellipse: &Ellipse<E>,
     root: E,
 ) -> Corrected<E>
-    ensures { (h : Place) (pi x_root : ℚ) (k : ConstRecord) (m : MeanRecord) (q : PeriodicRecord) (v : Vector) (r : ConstReach) (n : MeanReach) (e : EllipseReach) (r_root : Reach) (b : PositionBox) → IsPi pi → IsHeldConsts E.covers E.extent E.tells consts.now h k r → IsHeldMean E.covers E.extent E.tells mean.now h m n → IsHeldEllipse E.covers E.extent E.tells ellipse.now h q e → IsHeld E.covers E.extent E.tells root h x_root r_root → IsPositionUnguarded k m q pi x_root v → (T b.known → IsInBox q b) → IsHeldCorrected E.covers E.extent E.tells result h q (reach_corrected r n e r_root b) }
+    ensures { HoldsCorrected E.Enc consts.now mean.now ellipse.now root result }
 {
     let (sine, cosine) = root.sincos();
     let near = one::<E>().minus(cosine_part(ellipse.ax, ellipse.ay, sine, cosine));

@@ -1,12 +1,5 @@
 //! What the mean elements give before Kepler's equation is solved.
-ghost use Rattle.exact.specs.Rational.{ℚ};
-ghost use Rattle.fixed_iv.specs.Place.{Place};
-ghost use Rattle.sgp4_model.specs.Angle.{IsPi};
-ghost use Rattle.sgp4_model.specs.OrbitRecords.{ConstRecord, MeanRecord};
-ghost use Rattle.sgp4_model.specs.Position.{PeriodicRecord};
-ghost use Rattle.sgp4_shape.specs.HeldConsts.{ConstReach, IsHeldConsts};
-ghost use Rattle.sgp4_shape.specs.HeldMean.{IsHeldMean, MeanReach};
-ghost use Rattle.sgp4_periodic.specs.Ellipse.{IsEllipse, IsHeldEllipse, reach_ellipse};
+ghost use Rattle.sgp4_periodic.specs.Ellipse.{HoldsEllipse};
 
 use crate::long_period::{inverse_rectum, longitude, rest_of_square, second_component};
 use fixed_iv::Enc;
@@ -29,7 +22,7 @@ pub(crate) struct Ellipse<E> {
 
 /// The ellipse of the mean elements.
 pub(crate) fn ellipse_of<E: Enc>(consts: &Consts<E>, mean: &Mean<E>) -> Ellipse<E>
-    ensures { (h : Place) (pi : ℚ) (k : ConstRecord) (m : MeanRecord) (q : PeriodicRecord) (r : ConstReach) (n : MeanReach) → IsPi pi → IsHeldConsts E.covers E.extent E.tells consts.now h k r → IsHeldMean E.covers E.extent E.tells mean.now h m n → IsEllipse k m q pi → IsHeldEllipse E.covers E.extent E.tells result h q (reach_ellipse r n) }
+    ensures { HoldsEllipse E.Enc consts.now mean.now result }
 {
     let (sine, cosine) = mean.wm.sincos();
     let v = inverse_rectum(mean.am, mean.em);

@@ -1,9 +1,9 @@
-use Rattle.fixed_iv.proofs.Held.{minus_held, times_held}
+use Rattle.fixed_iv.proofs.Promises.{difference, product}
 use Rattle.sgp4_periodic.proofs.frame.cosine_of_sum.Goals as goal
 
 pub returns : goal.returns
-returns g c h _ _ _ _ _ _ _ _ su cu sine cosine =
-    let law = g.met.E.Enc.contained in
-    let times_1 = times_held law c.times.ensures.covers c.times.ensures.narrow cu cosine in
-    let times_2 = times_held law c.times-2.ensures.covers c.times-2.ensures.narrow su sine in
-    minus_held law c.minus.ensures.covers c.minus.ensures.narrow times_1 times_2
+returns g c = record {
+  gives = λ su cu sine cosine.
+      let law = g.met.E.Enc.contained in
+      difference law c.minus.ensures (product law c.times.ensures cu cosine) (product law c.times-2.ensures su sine);
+}

@@ -1,8 +1,10 @@
-use Rattle.fixed_iv.proofs.Held.{plus_held, times_held}
+use Rattle.fixed_iv.proofs.Promises.{product as times, sum}
 use Rattle.sgp4_periodic.proofs.latitude.sine_of_twice.Goals as goal
 
 pub returns : goal.returns
-returns g c h _ _ _ _ su cu =
-    let law = g.met.E.Enc.contained in
-    let product = times_held law c.times-product.ensures.covers c.times-product.ensures.narrow su cu in
-    plus_held law c.plus.ensures.covers c.plus.ensures.narrow product product
+returns g c = record {
+  gives = λ su cu.
+      let law = g.met.E.Enc.contained in
+      let once = times law c.times-product.ensures su cu in
+      sum law c.plus.ensures once once;
+}

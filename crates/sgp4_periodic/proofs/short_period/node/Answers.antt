@@ -1,9 +1,9 @@
-use Rattle.fixed_iv.proofs.Held.{plus_held, times_held}
+use Rattle.fixed_iv.proofs.Promises.{product, sum}
 use Rattle.sgp4_periodic.proofs.short_period.node.Goals as goal
 
 pub returns : goal.returns
-returns g c h _ _ _ _ _ _ _ _ om k ci s2 =
-    let law = g.met.E.Enc.contained in
-    let times_1 = times_held law c.times.ensures.covers c.times.ensures.narrow k ci in
-    let times_2 = times_held law c.times-2.ensures.covers c.times-2.ensures.narrow times_1 s2 in
-    plus_held law c.plus.ensures.covers c.plus.ensures.narrow om times_2
+returns g c = record {
+  gives = λ om k ci s2.
+      let law = g.met.E.Enc.contained in
+      sum law c.plus.ensures om (product law c.times-2.ensures (product law c.times.ensures k ci) s2);
+}
