@@ -6,7 +6,7 @@ Every value is made here from exact fractions, from series and from whole roots,
 at the top of the repository, python3 tools/numbers/slope_values.py, and then rt fmt in the crate.
 """
 from fractions import Fraction as F
-from math import floor, isqrt
+from math import ceil, floor, isqrt
 
 ONE = 1 << 48
 PARTS = 1 << 56
@@ -82,6 +82,23 @@ LINES = [
 ]
 
 
+# from where to where an angle goes, at most 1 to each side of its middle
+TURNS = [
+    (ONE // 2, 3 * ONE // 2), (5 * ONE, 5 * ONE - ONE // 3), (3 * ONE, 3 * ONE + ONE // 8), (-ONE, ONE // 64 - ONE), (0, 2 * ONE),
+]
+
+
+def bend_ends(start, end):
+    """Between which units a sine less its line lies, and a cosine: from the value in the middle it bends towards 0, by up to half
+    of the square of half of the turn, and a sixth of its cube is left to each side."""
+    middle, half = F(start + end, 2 * ONE), F(abs(end - start), 2 * ONE)
+    spread, ends = half**3 / 6, []
+    for value in (sine(reduced(middle)), cosine(reduced(middle))):
+        bend = value * (1 - half * half / 2)
+        ends += [floor((min(value, bend) - spread) * ONE), ceil((max(value, bend) + spread) * ONE)]
+    return ends
+
+
 def first_parts(start, end, parts):
     """The most of so many equal parts, from the start on, to the end of which a line stays above 0; and those of below 0."""
     def most(a, b):
@@ -109,6 +126,9 @@ def main():
     lines += ["];", ""]
     lines += ["/// Parts of the cell; and how many of them, from the start on and then from the end back, lie above 0 and below 0.", f"pub const COUNTS: [[u64; 5]; {len(LINES)}] = ["]
     lines += ["    [" + ", ".join(map(str, [n] + first_parts(a, b, n) + first_parts(b, a, n))) + "]," for a, b, n in LINES]
+    lines += ["];", ""]
+    lines += ["/// From where to where an angle goes; and between which units a sine less its line lies there, and a cosine.", f"pub const TURNS: [[i64; 6]; {len(TURNS)}] = ["]
+    lines += ["    [" + ", ".join(map(str, [a, b] + bend_ends(a, b))) + "]," for a, b in TURNS]
     lines += ["];", ""]
     with open("crates/rows_lin/src/expected.rt", "w") as file:
         file.write("\n".join(lines))

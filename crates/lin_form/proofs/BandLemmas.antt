@@ -1,10 +1,10 @@
 -- What the intervals of the parts hold.
-use Rattle.std.proofs.Common.{◌≡◌, arith, subst, [], ◌∷◌, inl, refl, pos, negsuc, ◌≤ℤ◌, ◌<ℤ◌}
+use Rattle.std.proofs.Common.{◌≡◌, ◌^◌, arith, subst, [], ◌∷◌, inl, refl, pos, negsuc, ◌≤ℤ◌, ◌<ℤ◌}
 use Rattle.std.proofs.lemmas.Int.{ints}
-use Rattle.exact.specs.Rational.{ℚ, of_int, ratio, ◌+ℚ◌, ◌-ℚ◌, ◌*ℚ◌, neg_ℚ, one_ℚ, zero_ℚ, ◌≤ℚ◌, ◌<ℚ◌}
+use Rattle.exact.specs.Rational.{ℚ, abs_ℚ, of_int, ratio, ◌+ℚ◌, ◌-ℚ◌, ◌*ℚ◌, neg_ℚ, one_ℚ, zero_ℚ, ◌≤ℚ◌, ◌<ℚ◌}
 use Rattle.exact.proofs.RationalRing.{ring, reads}
 use Rattle.exact.proofs.Order.{NonNeg, gap, known, le_antisym, le_by, le_of_not_negative, le_refl, le_trans, same_sign, ◌⊕◌, ◌⊗◌}
-use Rattle.exact.proofs.Bounds.{square}
+use Rattle.exact.proofs.Bounds.{abs_le, by_abs, square}
 use Rattle.exact.proofs.Integers.{of_int_is, of_int_le}
 use Rattle.exact.proofs.Strict.{lt_by, positive_known, positive_sum}
 use Rattle.sgp4_model.specs.Angle.{IsNear, part}
@@ -14,6 +14,7 @@ use Rattle.fixed_iv.specs.Holds.{Holds}
 use Rattle.fixed_iv.specs.Place.{Place, on_line}
 use Rattle.fixed_iv.specs.declared.iv.Iv.{Iv}
 use Rattle.fixed_iv.proofs.CommonLemmas.{units_le}
+use Rattle.lin_form.specs.Bend.{IsLeft, half_square, left_over}
 
 -- ---- between held numbers
 pub between_held : {v : Iv} {x y z : ℚ} → Holds v x → Holds v y → x ≤ℚ z → z ≤ℚ y → Holds v z
@@ -67,10 +68,16 @@ half_held e f = record {
   high = λ _. rw (f, of_int_is (pos 140737488355328)) (le_by [] (known 0 1) (search reads depth 90) tt);
 }
 
-pub unit_held : {v : Iv} → v.lo ≡ pos 1 → v.hi ≡ pos 1 → Holds v (ratio (pos 1) 281474976710656)
-unit_held e f = record {
-  low = λ _. rw (e, of_int_is (pos 1)) (le_by [] (known 0 1) (search reads depth 90) tt);
-  high = λ _. rw (f, of_int_is (pos 1)) (le_by [] (known 0 1) (search reads depth 90) tt);
+pub third_held : {v : Iv} → v.lo ≡ pos 93824992236885 → v.hi ≡ pos 93824992236886 → Holds v (ratio (pos 1) 3)
+third_held e f = record {
+  low = λ _. rw (e, of_int_is (pos 93824992236885)) (le_by [] (known 1 3) (search reads depth 90) tt);
+  high = λ _. rw (f, of_int_is (pos 93824992236886)) (le_by [] (known 2 3) (search reads depth 90) tt);
+}
+
+pub units_held : {v : Iv} (u : ℚ) → v.lo ≡ negsuc 0 → v.hi ≡ pos 1 → neg_ℚ (part 48) ≤ℚ u → u ≤ℚ part 48 → Holds v u
+units_held u e f p q = record {
+  low = λ _. rw (e, of_int_is (negsuc 0)) (le_by (u ∷ []) (known 281474976710656 1 ⊗ gap p) (search reads depth 90) tt);
+  high = λ _. rw (f, of_int_is (pos 1)) (le_by (u ∷ []) (known 281474976710656 1 ⊗ gap q) (search reads depth 90) tt);
 }
 
 pub tolerance_held : {v : Iv} (e : ℚ) → v.lo ≡ negsuc 0 → v.hi ≡ pos 1 → IsNear (part 59) e zero_ℚ → Holds v e
@@ -84,10 +91,6 @@ pub square_greater : (x : ℚ) → IsGreater (x *ℚ x) zero_ℚ (x *ℚ x)
 square_greater x = record { not_below_left = le_refl (x *ℚ x); not_below_right = le_of_not_negative (square x); is = inl refl }
 
 -- ---- the rest of a turn
--- half of the square of the slope, and a unit
-abbrev pub rest_at : ℚ → ℚ
-rest_at s = ratio (pos 1) 2 *ℚ (s *ℚ s) +ℚ ratio (pos 1) 281474976710656
-
 pub ends_ordered : neg_ℚ one_ℚ ≤ℚ one_ℚ
 ends_ordered = le_by [] (known 2 1) (search reads depth 90) tt
 
@@ -97,12 +100,50 @@ first_place = record { at = neg_ℚ one_ℚ; low = le_refl (neg_ℚ one_ℚ); hi
 abbrev pub last_place : Place
 last_place = record { at = one_ℚ; low = ends_ordered; high = le_refl one_ℚ }
 
-pub rest_held : {v : Iv} (h : Place) (s e : ℚ) → Holds v (neg_ℚ one_ℚ *ℚ rest_at s) → Holds v (one_ℚ *ℚ rest_at s) →
-    IsNear (ratio (pos 1) 2 *ℚ ((h.at *ℚ s) *ℚ (h.at *ℚ s)) +ℚ part 54) e zero_ℚ → Holds v e
-rest_held h s e p q n =
-    between_held p q
-    (le_by (h.at ∷ s ∷ e ∷ []) (gap n.below ⊕ known 1 2 ⊗ square s ⊗ square_below h ⊕ known 63 18014398509481984) (search reads depth 90) tt)
-    (le_by (h.at ∷ s ∷ e ∷ []) (gap n.above ⊕ known 1 2 ⊗ square s ⊗ square_below h ⊕ known 63 18014398509481984) (search reads depth 90) tt)
+-- one interval has a sixth of the cube of the slope and up to a unit to either side, the other what that sweeps
+pub spread_held : {v w : Iv} (s e : ℚ) →
+    ((u : ℚ) → neg_ℚ (part 48) ≤ℚ u → u ≤ℚ part 48 → Holds w (ratio (pos 1) 3 *ℚ (half_square s *ℚ s) +ℚ u)) →
+    ((m : ℚ) → Holds w m → Holds v (neg_ℚ one_ℚ *ℚ m) × Holds v (one_ℚ *ℚ m)) → IsLeft s e → Holds v e
+spread_held {v} {w} s e some both = by_abs (λ b. IsNear (left_over b) e zero_ℚ → Holds v e) s rising falling
+  where
+    units : neg_ℚ (part 48) ≤ℚ part 48
+    units = le_by [] (known 2 (2 ^ 48)) (search reads depth 90) tt
+
+    rising : NonNeg s → IsNear (left_over s) e zero_ℚ → Holds v e
+    rising p n =
+        let ends = both _ (some (part 48) units (le_refl _)) in
+        between_held ends.0 ends.1
+        (le_by (s ∷ e ∷ []) (gap n.below ⊕ known 63 (2 ^ 54)) (search reads depth 90) tt)
+        (le_by (s ∷ e ∷ []) (gap n.above ⊕ known 63 (2 ^ 54)) (search reads depth 90) tt)
+
+    falling : NonNeg (neg_ℚ s) → IsNear (left_over (neg_ℚ s)) e zero_ℚ → Holds v e
+    falling p n =
+        let ends = both _ (some (neg_ℚ (part 48)) (le_refl _) units) in
+        between_held ends.1 ends.0
+        (le_by (s ∷ e ∷ []) (gap n.below ⊕ known 63 (2 ^ 54)) (search reads depth 90) tt)
+        (le_by (s ∷ e ∷ []) (gap n.above ⊕ known 63 (2 ^ 54)) (search reads depth 90) tt)
+
+-- the place h of a line with the slope s is within the size of s
+pub swept_size : (h : Place) (s : ℚ) → IsNear (abs_ℚ s) (h.at *ℚ s) zero_ℚ
+swept_size h s = by_abs (λ b. IsNear b (h.at *ℚ s) zero_ℚ) s rising falling
+  where
+    rising : NonNeg s → IsNear s (h.at *ℚ s) zero_ℚ
+    rising p = record {
+      above = le_by (h.at ∷ s ∷ []) (gap h.high ⊗ p) (search reads depth 90) tt;
+      below = le_by (h.at ∷ s ∷ []) (gap h.low ⊗ p) (search reads depth 90) tt;
+    }
+
+    falling : NonNeg (neg_ℚ s) → IsNear (neg_ℚ s) (h.at *ℚ s) zero_ℚ
+    falling p = record {
+      above = le_by (h.at ∷ s ∷ []) (gap h.low ⊗ p) (search reads depth 90) tt;
+      below = le_by (h.at ∷ s ∷ []) (gap h.high ⊗ p) (search reads depth 90) tt;
+    }
+
+-- a slope of at most 1 to either side
+pub slow_size : (s : ℚ) → IsNear one_ℚ (one_ℚ *ℚ s) zero_ℚ → abs_ℚ s ≤ℚ one_ℚ
+slow_size s n =
+    abs_le (le_by (s ∷ []) (gap n.below) (search reads depth 90) tt)
+    (le_by (s ∷ []) (gap n.above) (search reads depth 90) tt)
 
 -- ---- signs and sizes of held numbers
 pub slow_held : {v : Iv} (h : Place) (s : ℚ) → negsuc 281474976710655 ≤ℤ v.lo → v.hi ≤ℤ pos 281474976710656 → Holds v s → IsNear one_ℚ (h.at *ℚ s) zero_ℚ

@@ -1,5 +1,5 @@
 -- Numbers on a line with a middle and a slope from intervals are those between the ends.
-use Rattle.std.proofs.Common.{◌≡◌, ◌∙◌, ap, subst, sym, ⊎_elim, [], ◌∷◌, Bool, true, false, not, pos, T}
+use Rattle.std.proofs.Common.{◌≡◌, ◌∙◌, ap, subst, sym, ⊎_elim, [], ◌∷◌, pos}
 use Rattle.exact.specs.Extremes.{larger, lesser}
 use Rattle.exact.specs.Rational.{ℚ, at_least_0, inverse, of_int, ratio, ◌+ℚ◌, ◌-ℚ◌, ◌*ℚ◌, ◌/ℚ◌, neg_ℚ, ◌≤ℚ◌}
 use Rattle.exact.proofs.RationalRing.{ring, reads}
@@ -8,6 +8,7 @@ use Rattle.exact.proofs.Bounds.{by_sign, le_total}
 use Rattle.exact.proofs.ExtremeLaws.{larger_le, le_larger, le_lesser, lesser_le}
 use Rattle.exact.proofs.Integers.{of_int_le}
 use Rattle.exact.proofs.Strict.{Positive, le_quotient, mul_inverse, not_zero, quotient_le}
+use Rattle.exact.proofs.Tests.{by_test}
 use Rattle.fixed_iv.specs.Ends.{in_units}
 use Rattle.fixed_iv.specs.Holds.{Holds}
 use Rattle.fixed_iv.specs.Place.{Place}
@@ -43,10 +44,6 @@ record IsFound (h c d s u x : ℚ) : Type 0 where
 
 by_positive : {P : Type 0} (x : ℚ) → (Positive x → P) → (NonNeg (neg_ℚ x) → P) → P
 by_positive {P} x f g = by_test (at_least_0 (neg_ℚ x)) (λ t. g (record { holds = t })) (λ t. f (record { holds = t }))
-  where
-    by_test : (t : Bool) → (T t → P) → (T (not t) → P) → P
-    by_test true h k = h tt
-    by_test false h k = k tt
 
 times_quotient : (h x : ℚ) → Positive h → h *ℚ (x /ℚ h) ≡ x
 times_quotient h x p = ring (h ∷ x ∷ inverse h ∷ []) {y = x *ℚ (h *ℚ inverse h)} (search reads depth 90) tt ∙ rw (mul_inverse h (not_zero p)) (ring (x ∷ []) (search reads depth 90) tt)

@@ -8,6 +8,7 @@ use Rattle.sgp4_model.specs.Angle.{IsNear, part}
 use Rattle.sgp4_model.specs.Root.{IsCbrt2, IsSqrt}
 use Rattle.fixed_iv.specs.Common.{IsGreater}
 use Rattle.fixed_iv.specs.Place.{Place, on_line}
+use Rattle.lin_form.specs.Bend.{ahead, half_square}
 use Rattle.lin_form.specs.Covered.{on_slope}
 
 -- a number above 0
@@ -67,10 +68,13 @@ off_near {w} {a} {b} n = record {
   below = le_by (w ∷ a ∷ b ∷ []) (gap n.below) (search reads depth 90) tt;
 }
 
-pub sine_on : (h : Place) (slope s c t : ℚ) → t ≡ on_slope h (s +ℚ (t -ℚ (s +ℚ h.at *ℚ slope *ℚ c))) (slope *ℚ c)
+pub sine_on : (h : Place) (slope s c t : ℚ) →
+    t ≡ on_slope h (s -ℚ h.at *ℚ h.at *ℚ (half_square slope *ℚ s) +ℚ (t -ℚ ahead (h.at *ℚ slope) s c)) (slope *ℚ c)
 sine_on h slope s c t = ring (h.at ∷ slope ∷ s ∷ c ∷ t ∷ []) (search reads depth 90) tt
 
-pub cosine_on : (h : Place) (slope s c a : ℚ) → a ≡ on_slope h (c +ℚ (a -ℚ (c -ℚ h.at *ℚ slope *ℚ s))) (neg_ℚ (slope *ℚ s))
+pub cosine_on : (h : Place) (slope s c a : ℚ) →
+    a ≡ on_slope h (c -ℚ h.at *ℚ h.at *ℚ (half_square slope *ℚ c) +ℚ (a -ℚ ahead (h.at *ℚ slope) c (neg_ℚ s)))
+    (neg_ℚ (slope *ℚ s))
 cosine_on h slope s c a = ring (h.at ∷ slope ∷ s ∷ c ∷ a ∷ []) (search reads depth 90) tt
 
 -- ---- roots, from the root of the middle

@@ -1,3 +1,4 @@
+pub mod Bend
 pub mod Between
 pub mod Covered
 pub mod Parts

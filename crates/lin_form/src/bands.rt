@@ -1,8 +1,9 @@
 //! Intervals of what lines over a cell, and their remainders, add.
 ghost use Rattle.std.specs.Prelude.{◌≡◌, IsTrue, pos};
-ghost use Rattle.exact.specs.Rational.{ℚ, ◌+ℚ◌, ◌*ℚ◌, one_ℚ, ratio, zero_ℚ, ◌<ℚ◌};
+ghost use Rattle.exact.specs.Rational.{ℚ, ◌*ℚ◌, one_ℚ, ratio, zero_ℚ, ◌<ℚ◌};
 ghost use Rattle.fixed_iv.specs.Holds.{Holds};
 ghost use Rattle.fixed_iv.specs.Place.{Place};
+ghost use Rattle.lin_form.specs.Bend.{IsLeft, half_square};
 ghost use Rattle.sgp4_model.specs.Angle.{IsNear, part};
 
 use fixed_iv::Iv;
@@ -38,11 +39,13 @@ pub(crate) fn bent(bend: Iv) -> Iv
     bend.hull(Iv::from_ends(0, 0))
 }
 
-/// What a pair is off the lines that begin with its slopes, where the angle has one of these slopes of at most 1.
-pub(crate) fn turn_rest(slope: Iv) -> Iv
-    ensures { (h : Place) (s e : ℚ) → Holds slope s → IsNear (ratio (pos 1) 2 *ℚ ((h.at *ℚ s) *ℚ (h.at *ℚ s)) +ℚ part 54) e zero_ℚ → Holds result e }
+/// What a pair is off its lines and bends, where the angle has one of these slopes of at most 1, and `half` has half of
+/// its square.
+pub(crate) fn turn_spread(slope: Iv, half: Iv) -> Iv
+    ensures { (s e : ℚ) → Holds slope s → Holds half (half_square s) → IsLeft s e → Holds result e }
 {
-    swept(halved(square(slope)) + Iv::from_ends(1, 1))
+    let sixth_cube = Iv::from_ends(ONE / 3, ONE / 3 + 1) * (half * slope);
+    swept(sixth_cube + Iv::from_ends(-1, 1))
 }
 
 /// The numbers up to 2^-59 from 0, and some more.

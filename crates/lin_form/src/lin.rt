@@ -2,7 +2,7 @@
 ghost use Rattle.std.specs.Prelude.{◌≡◌, false};
 
 use crate::bands::{
-    bent, halved, is_off_zero, is_positive, is_slow, is_zero, square, swept, tolerance, turn_rest,
+    bent, halved, is_off_zero, is_positive, is_slow, is_zero, square, swept, tolerance, turn_spread,
 };
 use crate::products::product_range;
 use fixed_iv::{Enc, Iv};
@@ -145,10 +145,19 @@ impl Enc for Lin {
         }
         let (sines, cosines) = trig_enc::sincos(Iv::WHOLE);
         let (sine, cosine) = trig_enc::sincos(self.centre);
-        let rest = turn_rest(self.slope);
+        let half = halved(square(self.slope));
+        let spread = turn_spread(self.slope, half);
         (
-            Lin::along(sine + rest, self.slope * cosine, sines),
-            Lin::along(cosine + rest, -(self.slope * sine), cosines),
+            Lin::along(
+                sine - bent(half * sine) + spread,
+                self.slope * cosine,
+                sines,
+            ),
+            Lin::along(
+                cosine - bent(half * cosine) + spread,
+                -(self.slope * sine),
+                cosines,
+            ),
         )
     }
 

@@ -1,5 +1,5 @@
 //! Each method of the slope enclosure, called through the interface.
-use crate::expected::{CASES, COUNTS, LINES, PLACES, VALUES};
+use crate::expected::{CASES, COUNTS, LINES, PLACES, TURNS, VALUES};
 use fixed_iv::{Enc, Iv};
 use lin_form::Lin;
 
@@ -87,6 +87,28 @@ fn a_short_cell_keeps_its_slope(rt: HostRuntime) {
     let forms = each::<Lin>(point(from), point(to), point(other_from), point(other_to));
     for form in forms.iter() {
         assert!(rt; waist(form) <= 140_737_500, "{}", waist(form));
+    }
+}
+
+/// Units that the rounding of a sine may take to each side.
+const ROUNDING: i64 = 64;
+
+#[test]
+fn a_sine_bends_to_one_side(rt: HostRuntime) {
+    for [from, to, sine_low, sine_high, cosine_low, cosine_high] in TURNS {
+        let (sine, cosine) = Lin::line(point(from), point(to)).sincos();
+        for (form, low, high) in [
+            (sine, sine_low, sine_high),
+            (cosine, cosine_low, cosine_high),
+        ] {
+            assert!(rt;
+                low.wrapping_sub(ROUNDING) <= form.centre.lo
+                    && form.centre.hi <= high.wrapping_add(ROUNDING),
+                "{from} to {to}: {} to {}",
+                form.centre.lo,
+                form.centre.hi
+            );
+        }
     }
 }
 
