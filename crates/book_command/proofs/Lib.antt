@@ -1,3 +1,4 @@
+mod BestLemmas
 mod BidLemmas
 mod ForwardLemmas
 mod LineLemmas

@@ -1,3 +1,4 @@
+pub mod BookLaws
 pub mod BookLayout
 pub mod BookedAt
 pub mod Bookings

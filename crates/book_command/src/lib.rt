@@ -3,6 +3,7 @@
 
 mod book;
 mod booked;
+mod laws;
 mod lines;
 mod plan;
 mod print;
@@ -10,6 +11,7 @@ mod run;
 mod station;
 
 pub use booked::Booked;
+pub use laws::bookings_are_best;
 pub use plan::BookPlan;
 pub use run::run_book;
 pub use station::StationBooking;

@@ -1,3 +1,4 @@
+pub mod Answered
 pub mod Certificate
 pub mod Contacts
 pub mod Fates

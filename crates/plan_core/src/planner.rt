@@ -1,10 +1,10 @@
 //! The planner.
 ghost use Rattle.std.specs.Prelude.{◌≡◌, ◌<◌, ◌≤◌, ℕ, [], length, map, slice_get, All, IfOk, None, Some};
 ghost use Rattle.catalogue.specs.declared.entry.Entry.{Entry};
-ghost use Rattle.station_file.specs.declared.row.StationRow.{StationRow};
-ghost use Rattle.span_bisect.specs.Answer.{IsAnswer, IsPoolAfter, answer_spans};
+ghost use Rattle.span_bisect.specs.Answer.{IsPoolAfter, answer_spans};
 ghost use Rattle.span_pool.specs.Pool.{Holds, IsReleased, KeepsOthers, list_at, list_of, slots_used};
-ghost use Rattle.plan_core.specs.Certificate.{IsPlanOf, light_of, sight_of};
+ghost use Rattle.plan_core.specs.Answered.{IsLightAnswer, IsSightAnswer};
+ghost use Rattle.plan_core.specs.Certificate.{IsPlanOf};
 ghost use Rattle.plan_core.specs.Fates.{IsExactFate, IsFate};
 ghost use Rattle.plan_core.specs.Kept.{IsKept};
 ghost use Rattle.plan_core.specs.LostAt.{LosesNoneAt};
@@ -90,7 +90,7 @@ impl Planner {
     pub fn track(&mut self, sat: u32, station: u32) -> TrackAnswer
         requires accepted { slice_get self.old.fates sat ≡ Some None }
         requires station { station < length self.old.setting.stations.rows }
-        ensures certified { (entry : Entry) (row : StationRow) → slice_get self.old.entries sat ≡ Some entry → slice_get self.old.setting.stations.rows station ≡ Some row → IsAnswer (sight_of self.old.setting entry.elements row) self.old.setting.window.resolution self.old.pool self.new.pool result }
+        ensures certified { IsSightAnswer self.old sat station self.new.pool result }
         ensures none_lost { LosesNoneAt self.old sat station result (answer_spans self.new.pool result) }
         ensures pool { IsPoolAfter self.old.pool self.new.pool result }
         ensures kept { IsKept self.old.pool self.new.pool }
@@ -105,7 +105,7 @@ impl Planner {
     /// The spans of a satellite's light, in slots of the pool. The satellite is accepted.
     pub fn lit(&mut self, sat: u32) -> TrackAnswer
         requires { slice_get self.old.fates sat ≡ Some None }
-        ensures certified { (entry : Entry) → slice_get self.old.entries sat ≡ Some entry → IsAnswer (light_of self.old.setting.window entry.elements) self.old.setting.window.resolution self.old.pool self.new.pool result }
+        ensures certified { IsLightAnswer self.old sat self.new.pool result }
         ensures pool { IsPoolAfter self.old.pool self.new.pool result }
         ensures kept { IsKept self.old.pool self.new.pool }
         ensures same { self.new ≡ record self.old { pool = self.new.pool } }

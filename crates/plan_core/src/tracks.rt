@@ -1,5 +1,5 @@
 //! The tracks of a satellite: of its light, and at a station.
-ghost use Rattle.std.specs.Prelude.{◌≡◌, ◌<◌, length, slice_get, None, Some};
+ghost use Rattle.std.specs.Prelude.{◌≡◌, ◌<◌, length, None};
 ghost use Rattle.elements.specs.Elements.{record_of_elements};
 ghost use Rattle.elements.specs.Window.{tick_instant};
 ghost use Rattle.sgp4_model.specs.Grazing.{pair_track};
@@ -8,9 +8,9 @@ ghost use Rattle.sgp4_motion.specs.Fate.{IsFar};
 ghost use Rattle.span_bisect.specs.Answer.{IsPoolAfter};
 ghost use Rattle.elements.specs.Offset.{IsOffset};
 ghost use Rattle.station_file.specs.Rows.{AreStations};
-ghost use Rattle.station_file.specs.declared.row.StationRow.{StationRow};
 ghost use Rattle.orbit_sight.specs.Scene.{record_of_station as place_record};
-ghost use Rattle.plan_core.specs.Certificate.{light_of, sight_of};
+ghost use Rattle.plan_core.specs.Answered.{IsSightMade};
+ghost use Rattle.plan_core.specs.Certificate.{light_of};
 ghost use Rattle.plan_core.specs.Kept.{IsKept, IsRowMade};
 ghost use Rattle.plan_core.specs.Readers.{IsReady};
 
@@ -70,7 +70,7 @@ pub(crate) fn track_pair(
     requires ready { IsReady setting.now satellite.now }
     requires accepted { satellite.now.fate ≡ None }
     requires station { station < length setting.now.stations.rows }
-    ensures row { (row : StationRow) → slice_get setting.now.stations.rows station ≡ Some row → IsRowMade (sight_of setting.now satellite.now.set row) setting.now.window.resolution pool.old pool.new result.answer }
+    ensures row { IsSightMade setting.now satellite.now station pool.old pool.new result.answer }
     ensures stations { AreStations setting.now.stations }
     ensures pool { IsPoolAfter pool.old pool.new result.answer }
     ensures kept { IsKept pool.old pool.new }
