@@ -17,7 +17,7 @@ use Rattle.top_call.specs.declared.outcome.Outcome.{Outcome}
 use Rattle.top_call.specs.declared.outcome.Outcome.TheVariants.{Done, Usage, BadWindow, BadCatalogue, BadStations, ReadFault, TooLong, WriteFault, OutOfMemory}
 use Rattle.top_call.specs.declared.outcome.Product.{Product}
 use Rattle.rows_runs.specs.EndLaws.{IsPrinted, IsPrintedInPart, StatusesTell}
-use Rattle.rows_runs.specs.Small.{Paper, Store, papers, stores}
+use Rattle.rows_runs.specs.Small.{Sheet, Store, sheets, stores}
 
 -- of a product that was printed the status is 0 or 1
 of_printed : (b : Bool) → (if b then 0 else 1) ≤ 1
@@ -28,9 +28,9 @@ of_printed false = omega arith
 of_want : (status : ℕ) (outcome : Outcome) → outcome ≡ OutOfMemory → status ≡ status_of outcome → status ≡ 9
 of_want status outcome want is = is ∙ ap status_of want
 
-printed_by : (told : Option (List (List ℕ))) (words : List (List ℕ)) (shelf shelf' : Store) (out out' : Paper) (outcome : Outcome) → AreTold told words →
+printed_by : (told : Option (List (List ℕ))) (words : List (List ℕ)) (shelf shelf' : Store) (out out' : Sheet) (outcome : Outcome) → AreTold told words →
     ((product : Product) → outcome ≡ Done product → IsProductOf shelf.held words product) →
-    IsWritten papers outcome out out' → IsCounted stores outcome shelf shelf' → status_of outcome ≤ 1 → IsPrinted told shelf shelf' out out'
+    IsWritten sheets outcome out out' → IsCounted stores outcome shelf shelf' → status_of outcome ≤ 1 → IsPrinted told shelf shelf' out out'
 printed_by told words shelf shelf' out out' (Done product) given done written counts le =
     record { words = words; given = given; product = product; certified = done product refl; written = written.grew; read = counts; put = written.kept }
 printed_by told words shelf shelf' out out' (Usage fault) given done written counts le = absurd (omega (arith, le))
@@ -64,9 +64,9 @@ long_by shelf shelf' TooLong counts is = counts
 long_by shelf shelf' (WriteFault product) counts is = absurd (omega (arith, is))
 long_by shelf shelf' OutOfMemory counts is = absurd (omega (arith, is))
 
-cut_by : (told : Option (List (List ℕ))) (words : List (List ℕ)) (shelf : Store) (out out' : Paper) (outcome : Outcome) → AreTold told words →
+cut_by : (told : Option (List (List ℕ))) (words : List (List ℕ)) (shelf : Store) (out out' : Sheet) (outcome : Outcome) → AreTold told words →
     ((product : Product) → outcome ≡ WriteFault product → IsProductOf shelf.held words product) →
-    IsWritten papers outcome out out' → status_of outcome ≡ 8 → IsPrintedInPart told shelf out out'
+    IsWritten sheets outcome out out' → status_of outcome ≡ 8 → IsPrintedInPart told shelf out out'
 cut_by told words shelf out out' (Done product) given cut written is = let h = of_printed (is_whole product) in absurd (omega (arith, is, h))
 cut_by told words shelf out out' (Usage fault) given cut written is = absurd (omega (arith, is))
 cut_by told words shelf out out' (BadWindow fault) given cut written is = absurd (omega (arith, is))
@@ -105,7 +105,7 @@ window_back OutOfMemory is = absurd (omega (arith, is))
 no_fault : (words : List (List ℕ)) (request : Request) (fault : WordFault) → words_value words ≡ Ok request → words_value words ≡ Err fault → ⊥
 no_fault words request fault e h = cc
 
-module _ (told : Option (List (List ℕ))) (status : ℕ) (shelf shelf' : Store) (out out' : Paper) (h : IsEnded stores papers told status shelf shelf' out out') where
+module _ (told : Option (List (List ℕ))) (status : ℕ) (shelf shelf' : Store) (out out' : Sheet) (h : IsEnded stores sheets told status shelf shelf' out out') where
   printed : status ≤ 1 → IsPrinted told shelf shelf' out out'
   printed le = elim (h.run) [
     | inl run ↦ printed_by told h.words shelf shelf' out out' h.outcome h.given run.certificate run.written run.counts (rw (sym h.status_is) le)
@@ -130,7 +130,7 @@ module _ (told : Option (List (List ℕ))) (status : ℕ) (shelf shelf' : Store)
     | inr want ↦ let nine = of_want status h.outcome want.want h.status_is in absurd (omega (arith, nine, is))
   ]
 
-module _ (words : List (List ℕ)) (status : ℕ) (shelf shelf' : Store) (out out' : Paper) (h : IsEnded stores papers (Some words) status shelf shelf' out out') where
+module _ (words : List (List ℕ)) (status : ℕ) (shelf shelf' : Store) (out out' : Sheet) (h : IsEnded stores sheets (Some words) status shelf shelf' out out') where
   usage : (fault : UsageFault) → words_value words ≡ Err (faults.Usage fault) → (status ≡ 2) ⊎ (status ≡ 9)
   usage fault e = elim (h.run) [
     | inl run ↦ inl (h.status_is ∙ ap status_of ((run.usage fault).1 (ap words_value h.given ∙ e)))

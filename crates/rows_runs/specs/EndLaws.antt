@@ -13,10 +13,10 @@ use Rattle.top_call.specs.Ended.{IsEnded}
 use Rattle.top_call.specs.Outcome.{layout}
 use Rattle.top_call.specs.Request.{IsProductOf}
 use Rattle.top_call.specs.declared.outcome.Product.{Product}
-use Rattle.rows_runs.specs.Small.{Paper, Store, papers, stores}
+use Rattle.rows_runs.specs.Small.{Sheet, Store, sheets, stores}
 
 -- the product of the words is certified, its layout is what was written, and no count changed
-pub record IsPrinted (told : Option (List (List ℕ))) (shelf shelf_after : Store) (out out_after : Paper) : Type 0 where
+pub record IsPrinted (told : Option (List (List ℕ))) (shelf shelf_after : Store) (out out_after : Sheet) : Type 0 where
   pub words : List (List ℕ)
   pub given : AreTold told words
   pub product : Product
@@ -26,7 +26,7 @@ pub record IsPrinted (told : Option (List (List ℕ))) (shelf shelf_after : Stor
   pub put : out_after.faults ≡ out.faults
 
 -- a front of the layout of such a product was written, and the output's count rose
-pub record IsPrintedInPart (told : Option (List (List ℕ))) (shelf : Store) (out out_after : Paper) : Type 0 where
+pub record IsPrintedInPart (told : Option (List (List ℕ))) (shelf : Store) (out out_after : Sheet) : Type 0 where
   pub words : List (List ℕ)
   pub given : AreTold told words
   pub product : Product
@@ -38,20 +38,20 @@ pub record IsPrintedInPart (told : Option (List (List ℕ))) (shelf : Store) (ou
 -- 8 of a product whose printing failed; words that are told and have a fault end with 2 or 3, or want memory, and others
 -- with neither
 pub record StatusesTell : Type 0 where
-  pub printed : (told : Option (List (List ℕ))) (status : ℕ) (shelf shelf_after : Store) (out out_after : Paper) →
-      IsEnded stores papers told status shelf shelf_after out out_after → status ≤ 1 → IsPrinted told shelf shelf_after out out_after
-  pub unread : (told : Option (List (List ℕ))) (status : ℕ) (shelf shelf_after : Store) (out out_after : Paper) →
-      IsEnded stores papers told status shelf shelf_after out out_after → status ≡ 6 → FaultsRose stores shelf shelf_after
-  pub long : (told : Option (List (List ℕ))) (status : ℕ) (shelf shelf_after : Store) (out out_after : Paper) →
-      IsEnded stores papers told status shelf shelf_after out out_after → status ≡ 7 → OversRose stores shelf shelf_after
-  pub cut : (told : Option (List (List ℕ))) (status : ℕ) (shelf shelf_after : Store) (out out_after : Paper) →
-      IsEnded stores papers told status shelf shelf_after out out_after → status ≡ 8 → IsPrintedInPart told shelf out out_after
-  pub usage : (words : List (List ℕ)) (fault : UsageFault) (status : ℕ) (shelf shelf_after : Store) (out out_after : Paper) →
-      IsEnded stores papers (Some words) status shelf shelf_after out out_after → words_value words ≡ Err (faults.Usage fault) →
+  pub printed : (told : Option (List (List ℕ))) (status : ℕ) (shelf shelf_after : Store) (out out_after : Sheet) →
+      IsEnded stores sheets told status shelf shelf_after out out_after → status ≤ 1 → IsPrinted told shelf shelf_after out out_after
+  pub unread : (told : Option (List (List ℕ))) (status : ℕ) (shelf shelf_after : Store) (out out_after : Sheet) →
+      IsEnded stores sheets told status shelf shelf_after out out_after → status ≡ 6 → FaultsRose stores shelf shelf_after
+  pub long : (told : Option (List (List ℕ))) (status : ℕ) (shelf shelf_after : Store) (out out_after : Sheet) →
+      IsEnded stores sheets told status shelf shelf_after out out_after → status ≡ 7 → OversRose stores shelf shelf_after
+  pub cut : (told : Option (List (List ℕ))) (status : ℕ) (shelf shelf_after : Store) (out out_after : Sheet) →
+      IsEnded stores sheets told status shelf shelf_after out out_after → status ≡ 8 → IsPrintedInPart told shelf out out_after
+  pub usage : (words : List (List ℕ)) (fault : UsageFault) (status : ℕ) (shelf shelf_after : Store) (out out_after : Sheet) →
+      IsEnded stores sheets (Some words) status shelf shelf_after out out_after → words_value words ≡ Err (faults.Usage fault) →
       (status ≡ 2) ⊎ (status ≡ 9)
-  pub window : (words : List (List ℕ)) (fault : WindowFault) (status : ℕ) (shelf shelf_after : Store) (out out_after : Paper) →
-      IsEnded stores papers (Some words) status shelf shelf_after out out_after → words_value words ≡ Err (faults.Window fault) →
+  pub window : (words : List (List ℕ)) (fault : WindowFault) (status : ℕ) (shelf shelf_after : Store) (out out_after : Sheet) →
+      IsEnded stores sheets (Some words) status shelf shelf_after out out_after → words_value words ≡ Err (faults.Window fault) →
       (status ≡ 3) ⊎ (status ≡ 9)
-  pub asked : (words : List (List ℕ)) (request : Request) (status : ℕ) (shelf shelf_after : Store) (out out_after : Paper) →
-      IsEnded stores papers (Some words) status shelf shelf_after out out_after → words_value words ≡ Ok request →
+  pub asked : (words : List (List ℕ)) (request : Request) (status : ℕ) (shelf shelf_after : Store) (out out_after : Sheet) →
+      IsEnded stores sheets (Some words) status shelf shelf_after out out_after → words_value words ≡ Ok request →
       (status ≢ 2) × (status ≢ 3)

@@ -13,17 +13,17 @@ abbrev pub stores : Shelf Store
 stores = record { held = λ s. s.held; allows = λ s name. ⊤; faults = λ s. s.faults; overs = λ s. s.overs }
 
 -- the bytes of an output, where it tells them, and its count
-pub record Paper : Type 0 where
+pub record Sheet : Type 0 where
   pub written : Option (List ℕ)
   pub faults : ℕ
 
-abbrev pub papers : Sink Paper
-papers = record { written = λ p. p.written; faults = λ p. p.faults }
+abbrev pub sheets : Sink Sheet
+sheets = record { written = λ p. p.written; faults = λ p. p.faults }
 
 -- a shelf that tells nothing, with these counts
 abbrev pub store : ℕ → ℕ → Store
 store faults overs = record { held = λ name. None; faults = faults; overs = overs }
 
 -- an output with this count, on which this is written
-abbrev pub paper : ℕ → List ℕ → Paper
-paper faults bytes = record { written = Some bytes; faults = faults }
+abbrev pub sheet : ℕ → List ℕ → Sheet
+sheet faults bytes = record { written = Some bytes; faults = faults }

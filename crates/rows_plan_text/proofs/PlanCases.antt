@@ -19,7 +19,7 @@ use Rattle.plan_text.specs.TableLines.{table_line, pass_line}
 use Rattle.plan_text.specs.Timetable.{timetable}
 use Rattle.std.specs.Fmt.{digits}
 use Rattle.station_file.specs.Rows as stations
-use Rattle.rows_text.specs.SmallPlans.{SmallPlans, hour, span, row, refused_satellite, first_satellite, second_satellite}
+use Rattle.rows_plan_text.specs.SmallPlans.{SmallPlans, hour, span, row, refused_satellite, first_satellite, second_satellite}
 
 -- a list of one holds what its one does
 one : {X : Type 0} (P : X → Type 0) (x : X) → P x → All P (x ∷ [])

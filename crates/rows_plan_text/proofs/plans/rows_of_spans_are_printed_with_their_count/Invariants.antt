@@ -1,5 +1,5 @@
 use Rattle.span_pool.specs.Pool.{Holds}
-use Rattle.rows_text.proofs.plans.rows_of_spans_are_printed_with_their_count.Given as goal
+use Rattle.rows_plan_text.proofs.plans.rows_of_spans_are_printed_with_their_count.Given as goal
 
 -- the pool holds the track
 abbrev pub invariant-loop-mark : goal.invariant-loop-mark
