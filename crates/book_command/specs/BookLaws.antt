@@ -8,7 +8,7 @@ use Rattle.contact_alloc.specs.Allocation.{IsAllocation, allocation_value}
 use Rattle.contact_alloc.specs.declared.bid.Bid.{Bid}
 use Rattle.plan_text.specs.Plan.{PlanRecord}
 
--- the bids are booked as an allocation to so many antennas, whose value is printed; no other allocation of them is worth more
+-- the bids are booked as an allocation to so many antennas, of this value; no other allocation of them is worth more
 pub record IsBest (bids : List Bid) (antennas : ℕ) (booked : BookedRecord) : Type 0 where
   pub bids_are : booked.bids ≡ bids
   pub allocation : IsAllocation bids antennas booked.booking.used

@@ -9,7 +9,7 @@ use Rattle.plan_core.specs.State.{plan_record}
 use Rattle.run_ends.specs.Files.{catalogue_and_stations}
 use Rattle.run_ends.specs.Runs.{Command}
 
--- The plan is certified whole, as that of the command `plan`. Each station in order, none left out, has its booking with so
+-- The plan is certified, as that of the command `plan`. Each station in order, none left out, has its booking with so
 -- many antennas: that its contacts are too many, exactly where they are more than 65,536; else an allocation of the contacts
 -- of its timetable, each worth its length in ticks, with prices that certify it.
 pub record IsBookedAt (catalogue stations : Option (List ℕ)) (window : WindowRecord) (antennas : ℕ) (book : BookState) : Type 0 where

@@ -1,6 +1,6 @@
 -- What the greater and the lesser of two numbers are, and how sums of lists go.
 use Rattle.std.proofs.Common.{◌≡◌, true, false, Bool, List, [], ◌∷◌, ◌++◌, T, not, ap, ◌∙◌}
-use Rattle.exact.specs.Rational.{ℚ, ◌+ℚ◌, ◌-ℚ◌, ◌≤ℚ◌, neg_ℚ, at_least_0, zero_ℚ}
+use Rattle.exact.specs.Rational.{ℚ, ◌+ℚ◌, ◌-ℚ◌, ◌≤ℚ◌, neg_ℚ, at_least_0}
 use Rattle.exact.specs.Extremes.{larger, lesser, sum_of}
 use Rattle.exact.proofs.RationalRing.{ring, reads}
 use Rattle.exact.proofs.Order.{NonNeg, le_by, le_of_gap, le_refl, opposite_holds}

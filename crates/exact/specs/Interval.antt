@@ -1,12 +1,12 @@
 -- Intervals between fractions that the checker compares, and their sums and products, rounded outwards.
-use Rattle.std.specs.Prelude.{◌≡◌, ℕ, suc, pred, ◌*◌, ◌/◌, Bool, true, false, ℤ, pos, negsuc}
+use Rattle.std.specs.Prelude.{ℕ, suc, pred, ◌*◌, ◌/◌, Bool, true, false, ℤ, pos, negsuc}
 use native.Mathlib.Nat.{zero-lt-suc}
 use mathlib.Core.Quot.{mk}
 use lib.IntN.{◌+ℤ◌, ◌*ℤ◌, neg_ℤ}
 use lib.Signed.{non_neg}
 use Rattle.std.proofs.Common.{eqb}
 use Rattle.algebra.specs.Fraction.{Frac}
-use Rattle.exact.specs.Rational.{ℚ, neg_ℚ, ◌≤ℚ◌}
+use Rattle.exact.specs.Rational.{ℚ, ◌≤ℚ◌}
 
 -- The fraction `num / (under + 1)`.
 pub record Coef : Type 0 where

@@ -8,7 +8,7 @@ ghost use Rattle.sgp4_model.specs.Time.{Somewhere};
 use crate::craft::Craft;
 use crate::lit_over::{ends_of, lit_over, shade_over};
 use crate::lit_survey::lit_survey;
-use crate::slopes::{are_slopes_of_use_for_light, is_vast};
+use crate::slopes::{are_slopes_of_use, is_vast};
 use crate::verdict::verdict_of;
 use elements::Window;
 use enc_plain::Plain;
@@ -64,7 +64,7 @@ impl<'a> Judge for LitJudge<'a> {
     }
 
     fn judge(&self, from: u64, to: u64) -> Verdict {
-        if are_slopes_of_use_for_light(to - from) {
+        if are_slopes_of_use(to - from) {
             return verdict_of(lit_over::<Lin>(self.craft, &self.window, from, to), false);
         }
         let side = lit_over::<Plain>(self.craft, &self.window, from, to);
@@ -72,7 +72,7 @@ impl<'a> Judge for LitJudge<'a> {
     }
 
     fn survey(&self, from: u64, to: u64) -> Survey {
-        if are_slopes_of_use_for_light(to - from) {
+        if are_slopes_of_use(to - from) {
             return lit_survey(self.craft, &self.window, from, to);
         }
         let first = if is_vast(to - from) {

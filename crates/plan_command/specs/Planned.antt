@@ -29,8 +29,8 @@ pub record IsPlanFor (satellites : List Entry) (stations : StationsRecord) (wind
 -- solution is sunlit or above the mask (dark or below it); undecided spans are no longer than the resolution and only graze; an
 -- unresolved stretch grazes throughout; a row decays only where some record sinks, and is full only where 1,048,576 spans were
 -- used up. So a row whose track grazes throughout no stretch of one tick more than the resolution, and sinks nowhere, is
--- resolved; and no contact is lost: a stretch longer than the resolution, at each instant of which some solution is above the
--- mask, has an instant in common with a visible span.
+-- spans, or full; and no contact is lost: in a row that is spans, what is longer than the resolution, and at each instant of
+-- which some solution is above the mask, has an instant in common with a visible span.
 pub record IsPlannedAt (catalogue stations : Option (List ℕ)) (window : WindowRecord) (plan : PlanRecord) : Type 0 where
   pub entries : List Entry
   pub places : StationsRecord

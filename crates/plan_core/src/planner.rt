@@ -85,8 +85,8 @@ impl Planner {
         self.satellites[sat as usize].row().fate
     }
 
-    /// The spans of a satellite at a station, in slots of the pool. The satellite is accepted. No contact that is longer than the
-    /// resolution is lost.
+    /// The spans of a satellite at a station, in slots of the pool. The satellite is accepted. Where the answer is spans, no
+    /// contact that is longer than the resolution is lost.
     pub fn track(&mut self, sat: u32, station: u32) -> TrackAnswer
         requires accepted { slice_get self.old.fates sat ≡ Some None }
         requires station { station < length self.old.setting.stations.rows }

@@ -13,7 +13,7 @@ pub record RowRecord : Type 0 where
   pub answer : AnswerRecord
   pub list : List Span
 
--- what is made of a satellite: it is refused; or it has the row of its light, and the rows of the stations that see it,
+-- what is made of a satellite: it is refused; or it has the row of its light, and a row of each station,
 -- in the order of the stations
 pub data StandingRecord : Type 0 where
   refused : SatFault → StandingRecord

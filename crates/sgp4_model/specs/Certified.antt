@@ -48,7 +48,7 @@ pub record IsSoundUpTo (track : TrackRecord) (resolution : ℕ) (list : List Spa
   pub each : All (IsTrueSpan track resolution) list
 
 -- A list is sound up to a tick, and from there to another the track grazes at every place; they are one tick more than the
--- resolution apart. So no stretch that begins before is as long.
+-- resolution apart. So nothing before them was skipped.
 pub record IsUnresolved (track : TrackRecord) (resolution from to : ℕ) : Type 0 where
   pub list : List Span
   pub sound : IsSoundUpTo track resolution list from

@@ -43,7 +43,7 @@ IsNight product = product <ℚ zero_ℚ
 abbrev pub GrazesHorizonBy : ℚ → ℚ → Type 0
 GrazesHorizonBy b product = IsNear b product zero_ℚ
 
--- the Sun grazes the horizon: by 0.001, and by 2^-23, which it crosses in milliseconds
+-- the Sun grazes the horizon: by 0.001, and by 2^-23, which takes it milliseconds at the equator, and seconds at a pole
 pub record GrazesHorizon (product : ℚ) : Type 0 where
   pub given : GrazesHorizonBy (decimal 1 3) product
   pub sharp : GrazesHorizonBy (part 23) product

@@ -9,7 +9,7 @@ use Rattle.top_call.specs.Run.{IsRun}
 use Rattle.top_call.specs.declared.outcome.Outcome.{Outcome}
 use Rattle.top_call.specs.declared.outcome.Outcome.TheVariants.{OutOfMemory}
 
--- there was no memory for the words: no file was asked for, and the one line of that was printed
+-- there was no memory for the words: the counts of the shelf are kept, and the line of that was printed, or a front of it
 pub record IsWordless {A B : Type 0} (S : Shelf A) (K : Sink B) (outcome : Outcome) (shelf shelf_after : A) (out out_after : B) : Type 0 where
   pub want : outcome ≡ OutOfMemory
   pub written : IsWritten K OutOfMemory out out_after

@@ -22,7 +22,7 @@ use Rattle.top_call.specs.declared.outcome.Outcome.TheVariants.{Done, Usage, Bad
 use Rattle.top_call.specs.declared.outcome.Product.{Product}
 
 -- The words are refused exactly for their first fault. A product is that of the words, and certified. What was written and
--- counted is what the outcome says, and a refusal of a file has its cause. Words that name no file leave the shelf as it was.
+-- counted is what the outcome says, and a refusal of a file has its cause. Words that name no file leave its counts as they were.
 -- Yielding to want of memory alone: words that make a request, of which each file is at hand, are done where no call failed;
 -- and a file that is not as it must be is refused for that where no load failed.
 pub record IsRun {A B : Type 0} (S : Shelf A) (K : Sink B) (words : List (List ℕ)) (outcome : Outcome)

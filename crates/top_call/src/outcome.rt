@@ -48,7 +48,7 @@ pub enum Outcome {
     TooLong,
     /// The product was made, and a write failed.
     WriteFault { product: Product },
-    /// There was no memory for the product.
+    /// There was no memory for the words, a file or the product.
     OutOfMemory,
 }
 
